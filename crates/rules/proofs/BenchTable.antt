@@ -1,0 +1,11 @@
+-- Every row of the bench table is right: the rules answer as the paper's worked examples do. Proved by computing.
+-- Assumes nothing.
+use mathlib.Core.Path.{_≡_, refl}
+use mathlib.Core.List.{[]}
+use Rattle.rules.specs.Computes.{computes}
+use Rattle.rules.specs.BenchTable.{table, wrongFrom}
+
+-- no row of the table is wrong; where one were, its place in the table would stand in the error
+pub bench-table : wrongFrom 1 table ≡ []
+unfolding computes
+bench-table = refl

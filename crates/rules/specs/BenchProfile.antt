@@ -1,0 +1,83 @@
+-- "The bench profile": the profiles of the paper's worked examples, each lived through by calls from an empty one.
+-- Assumes nothing.
+use Prim.Native.Nat.{ℕ}
+use mathlib.Core.Bool.{Bool, true, false}
+use mathlib.Core.List.{List, [], _∷_}
+use Rattle.rules.specs.Tests.{_and_}
+use Rattle.rules.specs.HallLine.{Band, bandOf}
+use Rattle.rules.specs.Profile.{Profile, emptyProfile}
+use Rattle.rules.specs.BoxSaysNo.{Room, roomOf, inRange, Change, insertOf, removeOf}
+use Rattle.rules.specs.SoundMemory.{standing, fits}
+
+-- bands by how their ends are written: [l,h], (l,h], [l,h) and (l,h)
+abbrev pub closed : ℕ → ℕ → ℕ → ℕ → Band
+closed n s l h = bandOf n s l h true true
+
+abbrev pub openLow : ℕ → ℕ → ℕ → ℕ → Band
+openLow n s l h = bandOf n s l h false true
+
+abbrev pub openHigh : ℕ → ℕ → ℕ → ℕ → Band
+openHigh n s l h = bandOf n s l h true false
+
+abbrev pub open′ : ℕ → ℕ → ℕ → ℕ → Band
+open′ n s l h = bandOf n s l h false false
+
+-- a call that changes a profile
+pub data Call : Type 0 where
+  insert : Band → ℕ → ℕ → Call
+  remove : ℕ → ℕ → Call
+
+-- a memory of that room that holds the profile is sound
+abbrev pub isSound : Room → Profile → Bool
+isSound room p = standing p and fits room p
+
+-- what the call comes to in a memory of that room
+abbrev pub callOf : Room → Profile → Call → Change
+callOf room p (insert b l h) = insertOf (inRange room) (isSound room p) room p b l h
+callOf room p (remove n s) = removeOf (inRange room) (isSound room p) room p n s
+
+-- the profile after some calls, one after the other
+abbrev pub lived : Room → Profile → List Call → Profile
+lived room p [] = p
+lived room p (c ∷ cs) = lived room (callOf room p c .profile) cs
+
+abbrev pub wide : Room
+wide = roomOf 2048 16384
+
+-- Bands 1 [100,400], 2 (400,900], 3 [200,300], 4 [250,250], 5 [100,900). Levels 100:1, 200:3, 250:1, 300:2, 400:1, 900:2.
+-- They come in mixed order, and levels given for ends that stand already, or for the high end of a one-key band, mislead.
+abbrev pub bench : Profile
+bench =
+    lived wide emptyProfile
+    (insert (openHigh 5 0 100 900) 1 2
+    ∷ insert (closed 3 0 200 300) 3 2
+    ∷ insert (closed 1 0 100 400) 8 1
+    ∷ insert (closed 4 0 250 250) 1 6
+    ∷ insert (openLow 2 0 400 900) 7 5
+    ∷ [])
+
+-- P9: bands [10,50], [20,20], [30,30], [40,40], levels 10:2, 20:1, 30:1, 40:2, 50:1. [40,40] comes before [30,30], so that the way fits too
+abbrev pub nine : Room → Profile
+nine room =
+    lived room emptyProfile
+    (insert (closed 1 0 10 50) 2 1
+    ∷ insert (closed 2 0 20 20) 1 1
+    ∷ insert (closed 4 0 40 40) 2 2
+    ∷ insert (closed 3 0 30 30) 1 1
+    ∷ [])
+
+-- two tall neighbours with one almost as tall between them
+abbrev pub tall : Profile
+tall = lived wide emptyProfile (insert (closed 1 0 10 50) 8 8 ∷ insert (closed 2 0 20 20) 7 7 ∷ [])
+
+-- one stretch that is an edge in three lanes
+abbrev pub twins : Profile
+twins = lived wide emptyProfile (insert (closed 1 0 10 50) 3 3 ∷ [])
+
+-- band 1 is marked on node 30 and on both edges beside it ..
+abbrev pub beside : Profile
+beside = lived wide emptyProfile (insert (closed 1 0 10 90) 1 1 ∷ insert (closed 2 0 30 40) 2 1 ∷ [])
+
+-- .. until a node of level 2 at 60 lifts the mark of edge 30-40 to lane 1; edge 10-30 still bears it
+abbrev pub lifted : Profile
+lifted = lived wide beside (insert (closed 3 0 60 60) 2 2 ∷ [])

@@ -1,0 +1,215 @@
+-- "When the box says no": each line of the table as a condition, and for each call the lines that can be given, lowest first.
+-- Whether sizes are right and memory is sound is given here as two Bools: these rules know no memory.
+-- Assumes nothing.
+use Prim.Native.Nat.{ℕ}
+use mathlib.Core.Bool.{Bool, true, false, not, cond}
+use mathlib.Core.List.{List, [], _∷_, _++_}
+use mathlib.Core.Option.{none}
+use lib.Dec.{leb, ltb, eqb}
+use lib.ListN.{length, replicate}
+use Rattle.rules.specs.Tests.{_and_, _or_, any}
+use Rattle.rules.specs.HallLine.{Band, highestKey, highestNumber, house, holdsSome, withinScope}
+use Rattle.rules.specs.NodesLanesEdges.{isLevel, standsAt, levelAt}
+use Rattle.rules.specs.Profile.{Profile, hasNumber, isLive}
+use Rattle.rules.specs.Marks.{marksInUse}
+use Rattle.rules.specs.Flags.{flagWordCount}
+use Rattle.rules.specs.Search.{Stab, stabOf}
+use Rattle.rules.specs.Changes.{inserted, removed}
+use Rattle.rules.specs.Readouts.{BandRead, readOf, bandRead, EdgeRead, edgeRead, NodeRead, nodeRead, RoomRead, roomRead}
+
+-- the room of a memory: how many nodes and how many marks it can take
+pub record Room : Type 0 where
+  pub nodes : ℕ
+  pub marks : ℕ
+
+abbrev pub roomOf : ℕ → ℕ → Room
+roomOf n m = record { nodes = n; marks = m }
+
+-- room for 1 to 2,048 nodes and 1 to 16,384 marks
+unfoldable pub inRange : Room → Bool
+inRange r = leb 1 (r .nodes) and leb (r .nodes) 2048 and leb 1 (r .marks) and leb (r .marks) 16384
+
+-- a line of the table: its number, and whether it applies
+pub record Line : Type 0 where
+  pub refusal : ℕ
+  pub applies : Bool
+
+abbrev pub line : ℕ → Bool → Line
+line n c = record { refusal = n; applies = c }
+
+-- of lines in ascending order the lowest number that applies is given; 0 where none does
+abbrev pub lowest : List Line → ℕ
+lowest [] = 0
+lowest (l ∷ ls) = cond (l .applies) (l .refusal) (lowest ls)
+
+-- 1: sizes are out of range; for insert and remove, also memory not sound
+abbrev pub sizesWrong : Bool → Line
+sizesWrong sizesRight = line 1 (not sizesRight)
+
+abbrev pub notSound : Bool → Bool → Line
+notSound sizesRight sound = line 1 (not (sizesRight and sound))
+
+-- 2: scope above 64
+abbrev pub scopeAbove : ℕ → Line
+scopeAbove scope = line 2 (ltb house scope)
+
+-- 3: band number above 1,023
+abbrev pub numberAbove : ℕ → Line
+numberAbove number = line 3 (ltb highestNumber number)
+
+-- 4: a key above 2,097,151
+abbrev pub keyAbove : ℕ → Line
+keyAbove k = line 4 (ltb highestKey k)
+
+abbrev pub endAbove : Band → Line
+endAbove b = line 4 (ltb highestKey (b .low) or ltb highestKey (b .high))
+
+-- 5: band holds no whole key
+abbrev pub holdsNone : Band → Line
+holdsNone b = line 5 (not (holdsSome b))
+
+-- 6: scope is a machine and an end is not among its keys
+abbrev pub endElsewhere : Band → Line
+endElsewhere b = line 6 (not (withinScope b))
+
+-- 7: a given level is not 1 to 8, even if it would not be used
+abbrev pub levelWrong : ℕ → ℕ → Line
+levelWrong lowLevel highLevel = line 7 (not (isLevel lowLevel and isLevel highLevel))
+
+-- 8: insert: number is live
+abbrev pub numberLive : Profile → ℕ → Line
+numberLive p number = line 8 (isLive number (p .bands))
+
+-- 9: remove or band readout: number is not live
+abbrev pub numberNotLive : Profile → ℕ → Line
+numberNotLive p number = line 9 (not (isLive number (p .bands)))
+
+-- 10: remove: the band's scope is another
+abbrev pub scopeOther : Profile → ℕ → ℕ → Line
+scopeOther p number scope = line 10 (any (λ b. hasNumber number b and not (eqb (b .scope) scope)) (p .bands))
+
+-- 11: nodes after the call would exceed the node room
+abbrev pub nodesExceed : Room → Profile → Line
+nodesExceed room after = line 11 (ltb (room .nodes) (length (after .nodes)))
+
+-- 12: marks that the rule gives after the call would exceed the mark room
+abbrev pub marksExceed : Room → Profile → Line
+marksExceed room after = line 12 (ltb (room .marks) (marksInUse after))
+
+-- 13: edge or node readout: no node at the key, or it has no such lane
+abbrev pub noNode : Profile → ℕ → Line
+noNode p k = line 13 (not (standsAt k (p .nodes)))
+
+abbrev pub noLane : Profile → ℕ → ℕ → Line
+noLane p k i = line 13 (not (ltb i (levelAt k (p .nodes))))
+
+-- the faults of a band by itself: 2 to 6
+abbrev pub bandLines : Band → List Line
+bandLines b = scopeAbove (b .scope) ∷ numberAbove (b .number) ∷ endAbove b ∷ holdsNone b ∷ endElsewhere b ∷ []
+
+-- 4, for a key asked for
+unfoldable pub keyFault : ℕ → ℕ
+keyFault k = lowest (keyAbove k ∷ [])
+
+-- the lowest of 2 to 6 that applies to a band
+unfoldable pub bandFault : Band → ℕ
+bandFault b = lowest (bandLines b)
+
+-- the lowest of 2 to 7 that applies to a band and the levels given for its ends
+unfoldable pub faultOf : Band → ℕ → ℕ → ℕ
+faultOf b lowLevel highLevel = lowest (bandLines b ++ levelWrong lowLevel highLevel ∷ [])
+
+-- an empty profile is refused only by 1 (sizes), whatever the memory held
+unfoldable pub emptyRefusal : Bool → ℕ
+emptyRefusal sizesRight = lowest (sizesWrong sizesRight ∷ [])
+
+-- insert: 1 to 8, 11, 12; the state after the call decides 11 and 12
+unfoldable pub insertRefusal : Bool → Bool → Room → Profile → Band → ℕ → ℕ → ℕ
+insertRefusal sizesRight sound room p b lowLevel highLevel =
+    lowest
+    (notSound sizesRight sound
+    ∷ bandLines b
+    ++ levelWrong lowLevel highLevel
+    ∷ numberLive p (b .number)
+    ∷ nodesExceed room (inserted p b lowLevel highLevel)
+    ∷ marksExceed room (inserted p b lowLevel highLevel)
+    ∷ [])
+
+-- remove: 1, 2, 3, 9, 10, 12; nodes never grow, so 11 is never given
+unfoldable pub removeRefusal : Bool → Bool → Room → Profile → ℕ → ℕ → ℕ
+removeRefusal sizesRight sound room p number scope =
+    lowest
+    (notSound sizesRight sound
+    ∷ scopeAbove scope
+    ∷ numberAbove number
+    ∷ numberNotLive p number
+    ∷ scopeOther p number scope
+    ∷ marksExceed room (removed p number)
+    ∷ [])
+
+-- what a change comes to: the number it answers, 0 where it is accepted, and the profile after it
+pub record Change : Type 0 where
+  pub refusal : ℕ
+  pub profile : Profile
+
+-- a refused change leaves all as it was
+abbrev pub changed : ℕ → Profile → Profile → Change
+changed refusal before after = record { refusal = refusal; profile = cond (eqb refusal 0) after before }
+
+unfoldable pub insertOf : Bool → Bool → Room → Profile → Band → ℕ → ℕ → Change
+insertOf sizesRight sound room p b lowLevel highLevel =
+    changed (insertRefusal sizesRight sound room p b lowLevel highLevel) p (inserted p b lowLevel highLevel)
+
+unfoldable pub removeOf : Bool → Bool → Room → Profile → ℕ → ℕ → Change
+removeOf sizesRight sound room p number scope =
+    changed (removeRefusal sizesRight sound room p number scope) p (removed p number)
+
+-- stab: 1 (sizes), 4
+unfoldable pub stabRefusal : Bool → ℕ → ℕ
+stabRefusal sizesRight k = lowest (sizesWrong sizesRight ∷ keyAbove k ∷ [])
+
+-- band readout: 1 (sizes), 3, 9
+unfoldable pub bandRefusal : Bool → Profile → ℕ → ℕ
+bandRefusal sizesRight p number = lowest (sizesWrong sizesRight ∷ numberAbove number ∷ numberNotLive p number ∷ [])
+
+-- edge readout: 1 (sizes), 4, 13
+unfoldable pub edgeRefusal : Bool → Profile → ℕ → ℕ → ℕ
+edgeRefusal sizesRight p k i = lowest (sizesWrong sizesRight ∷ keyAbove k ∷ noNode p k ∷ noLane p k i ∷ [])
+
+-- node readout: 1 (sizes), 4, 13
+unfoldable pub nodeRefusal : Bool → Profile → ℕ → ℕ
+nodeRefusal sizesRight p k = lowest (sizesWrong sizesRight ∷ keyAbove k ∷ noNode p k ∷ [])
+
+-- room readout: 1 (sizes)
+unfoldable pub roomRefusal : Bool → ℕ
+roomRefusal sizesRight = lowest (sizesWrong sizesRight ∷ [])
+
+-- a stab or a readout answers its number, 0 where it is not refused, and what is read
+pub record Answered (A : Type 0) : Type 0 where
+  pub refusal : ℕ
+  pub answer : A
+
+-- a refused stab or readout answers zeros throughout beside its number
+abbrev pub answered : {A : Type 0} → ℕ → A → A → Answered A
+answered refusal zeros a = record { refusal = refusal; answer = cond (eqb refusal 0) a zeros }
+
+abbrev pub noFlags : List ℕ
+noFlags = replicate flagWordCount 0
+
+unfoldable pub stabAnswer : Bool → Profile → ℕ → Answered Stab
+stabAnswer sizesRight p k =
+    answered (stabRefusal sizesRight k) (record { flags = noFlags; count = 0; met = 0; looks = 0 }) (stabOf p k)
+
+unfoldable pub bandAnswer : Bool → Profile → ℕ → Answered BandRead
+bandAnswer sizesRight p number = answered (bandRefusal sizesRight p number) (readOf none) (bandRead p number)
+
+unfoldable pub edgeAnswer : Bool → Profile → ℕ → ℕ → Answered EdgeRead
+edgeAnswer sizesRight p k i =
+    answered (edgeRefusal sizesRight p k i) (record { next = none; flags = noFlags }) (edgeRead p k i)
+
+unfoldable pub nodeAnswer : Bool → Profile → ℕ → Answered NodeRead
+nodeAnswer sizesRight p k =
+    answered (nodeRefusal sizesRight p k) (record { level = 0; flags = noFlags }) (nodeRead p k)
+
+unfoldable pub roomAnswer : Bool → Profile → Answered RoomRead
+roomAnswer sizesRight p = answered (roomRefusal sizesRight) (record { nodes = 0; marks = 0 }) (roomRead p)

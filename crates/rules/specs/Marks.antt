@@ -1,0 +1,63 @@
+-- "Marks": which bands are marked on an edge of a lane and on a node, by the paper's rule with its quantifiers, and marks in use.
+-- Assumes nothing.
+use Prim.Native.Nat.{ℕ, suc, _+_, _-_}
+use mathlib.Core.Bool.{Bool, not}
+use mathlib.Core.List.{List, [], _∷_}
+use lib.Dec.{leb, ltb}
+use Rattle.rules.specs.Tests.{_and_, any, countIf, sumOf, someLane, sumLanes, addIf}
+use Rattle.rules.specs.HallLine.{Band, holds}
+use Rattle.rules.specs.NodesLanesEdges.{Node, Edge, edgesOf, lanes}
+use Rattle.rules.specs.Profile.{Profile}
+
+-- an edge from X to Y lies inside a band when low <= X and Y <= high; open or closed plays no part
+unfoldable pub inside : Edge → Band → Bool
+inside e b = leb (b .low) (e .from) and leb (e .to) (b .high)
+
+-- the first edge contains the second
+unfoldable pub contains : Edge → Edge → Bool
+contains f e = leb (f .from) (e .from) and leb (e .to) (f .to)
+
+-- some edge of lane j both contains e and lies inside the band
+unfoldable pub containedIn : List Node → Band → Edge → ℕ → Bool
+containedIn ns b e j = any (λ f. contains f e and inside f b) (edgesOf j ns)
+
+-- edge mark: the edge of lane i lies inside the band, and no edge of a lane above i both contains it and lies inside the band
+unfoldable pub edgeMarked : List Node → Band → ℕ → Edge → Bool
+edgeMarked ns b i e = inside e b and not (someLane (containedIn ns b e) (suc i) (lanes - suc i))
+
+-- the edge passes strictly over the key
+unfoldable pub passesOver : Edge → ℕ → Bool
+passesOver e k = ltb (e .from) k and ltb k (e .to)
+
+-- some edge of lane j passes strictly over the key and lies inside the band
+unfoldable pub passedIn : List Node → Band → ℕ → ℕ → Bool
+passedIn ns b k j = any (λ e. passesOver e k and inside e b) (edgesOf j ns)
+
+-- node mark: the band holds the node's key, and no edge that passes strictly over the node lies inside the band
+unfoldable pub nodeMarked : List Node → Band → ℕ → Bool
+nodeMarked ns b k = holds b k and not (someLane (passedIn ns b k) 0 lanes)
+
+-- how many edges of lane i bear the band's mark
+unfoldable pub edgeMarksIn : List Node → Band → ℕ → ℕ
+edgeMarksIn ns b i = countIf (edgeMarked ns b i) (edgesOf i ns)
+
+-- all marks of one band: those on edges of all lanes and those on nodes
+unfoldable pub marksOf : List Node → Band → ℕ
+marksOf ns b = sumLanes (edgeMarksIn ns b) 0 lanes + countIf (λ n. nodeMarked ns b (n .key)) ns
+
+-- marks in use are all edge and node marks
+unfoldable pub marksInUse : Profile → ℕ
+marksInUse p = sumOf (marksOf (p .nodes)) (p .bands)
+
+-- the numbers of the bands that pass, in the order of the bands
+abbrev pub numbersWhere : (Band → Bool) → List Band → List ℕ
+numbersWhere f [] = []
+numbersWhere f (b ∷ bs) = addIf (f b) (b .number) (numbersWhere f bs)
+
+-- the numbers marked on an edge of lane i
+unfoldable pub markedOnEdge : Profile → ℕ → Edge → List ℕ
+markedOnEdge p i e = numbersWhere (λ b. edgeMarked (p .nodes) b i e) (p .bands)
+
+-- the numbers marked on the node at the key
+unfoldable pub markedOnNode : Profile → ℕ → List ℕ
+markedOnNode p k = numbersWhere (λ b. nodeMarked (p .nodes) b k) (p .bands)

@@ -1,0 +1,89 @@
+-- Tests and counts over lists, numbers and lanes, from which the rules are worded. Knows nothing of the hall.
+-- Assumes nothing.
+use Prim.Native.Nat.{ℕ, zero, suc, _+_}
+use mathlib.Core.Bool.{Bool, true, false, not}
+use mathlib.Core.List.{List, [], _∷_}
+use mathlib.Core.Option.{Option, none, some}
+use lib.Dec.{eqb}
+
+infixr 35 _and_
+infixr 30 _or_
+-- both hold
+unfoldable pub _and_ : Bool → Bool → Bool
+true and b = b
+false and b = false
+
+-- at least one holds
+unfoldable pub _or_ : Bool → Bool → Bool
+true or b = true
+false or b = b
+
+-- 1 where the test holds, else 0
+abbrev pub oneIf : Bool → ℕ
+oneIf true = 1
+oneIf false = 0
+
+module _ {A : Type 0} where
+  -- the list, or nothing where the test fails
+  abbrev pub onlyIf : Bool → List A → List A
+  onlyIf true xs = xs
+  onlyIf false xs = []
+
+  -- x before xs where the test holds
+  abbrev pub addIf : Bool → A → List A → List A
+  addIf true x xs = x ∷ xs
+  addIf false x xs = xs
+
+  -- some element passes
+  abbrev pub any : (A → Bool) → List A → Bool
+  any f [] = false
+  any f (x ∷ xs) = f x or any f xs
+
+  -- each element passes
+  abbrev pub all : (A → Bool) → List A → Bool
+  all f [] = true
+  all f (x ∷ xs) = f x and all f xs
+
+  -- those that pass, in their order
+  abbrev pub keep : (A → Bool) → List A → List A
+  keep f [] = []
+  keep f (x ∷ xs) = addIf (f x) x (keep f xs)
+
+  -- the first element, where there is one
+  abbrev pub firstOf : List A → Option A
+  firstOf [] = none
+  firstOf (x ∷ xs) = some x
+
+  -- how many pass
+  abbrev pub countIf : (A → Bool) → List A → ℕ
+  countIf f [] = 0
+  countIf f (x ∷ xs) = oneIf (f x) + countIf f xs
+
+  -- the sum of a number taken of each element
+  abbrev pub sumOf : (A → ℕ) → List A → ℕ
+  sumOf f [] = 0
+  sumOf f (x ∷ xs) = f x + sumOf f xs
+
+-- the number stands in the list
+abbrev pub member : ℕ → List ℕ → Bool
+member n xs = any (eqb n) xs
+
+-- no number stands twice in the list
+abbrev pub distinct : List ℕ → Bool
+distinct [] = true
+distinct (x ∷ xs) = not (member x xs) and distinct xs
+
+-- how many of the m numbers from a on pass
+abbrev pub countFrom : (ℕ → Bool) → ℕ → ℕ → ℕ
+countFrom f a zero = 0
+countFrom f a (suc m) = oneIf (f a) + countFrom f (suc a) m
+
+-- some lane passes, of the m lanes from lane i up
+abbrev pub someLane : (ℕ → Bool) → ℕ → ℕ → Bool
+someLane f i zero = false
+someLane f i (suc m) = f i or someLane f (suc i) m
+
+-- the sum of a number taken of each of the m lanes from lane i up
+abbrev pub sumLanes : (ℕ → ℕ) → ℕ → ℕ → ℕ
+sumLanes f i zero = 0
+sumLanes f i (suc m) = f i + sumLanes f (suc i) m
