@@ -15,6 +15,7 @@ use lib.ListN.{length, getD}
 use lib.Count.{ones, ones-step}
 use Rattle.rules.specs.Tests.{_and_, _or_, oneIf, all, sumOf, member, distinct, countFrom}
 use Rattle.rules.specs.Flags.{flagsOf, flagAt, countOf, bitsFrom, wordsFrom}
+use Rattle.rules.proofs.Tests.{and-both}
 
 oneIf-below-two : (b : Bool) → oneIf b < 2
 oneIf-below-two true = omega arith
@@ -170,12 +171,6 @@ module _ (x : ℕ) where
       go true e ih = let here = eqb-true a x e in omega (arith, count-past-number (suc a) m (omega arith))
       go false e ih = let off = eqb-false a x e in omega (arith, ih (omega arith) (omega arith))
 
-both-true : (b c : Bool) → (b and c) ≡ true → (b ≡ true) × (c ≡ true)
-unfolding _and_
-both-true true c e = (refl, e)
-both-true false true e = (e, refl)
-both-true false false e = (e, e)
-
 -- a number that is not in the list is counted apart from it
 no-number-both : (x : ℕ) (xs : List ℕ) → member x xs ≡ false → (n : ℕ) → (eqb n x and member n xs) ≡ false
 unfolding _and_
@@ -194,8 +189,8 @@ pub count-of-distinct : (m : ℕ) (ns : List ℕ) → all (λ n. ltb n m) ns ≡
     → countFrom (λ n. member n ns) 0 m ≡ length ns
 count-of-distinct m [] below apart = count-of-none (λ n. false) (λ n. refl) 0 m
 count-of-distinct m (x ∷ xs) below apart =
-    let b = both-true (ltb x m) (all (λ n. ltb n m) xs) below in
-    let d = both-true (not (member x xs)) (distinct xs) apart in
+    let b = and-both (ltb x m) (all (λ n. ltb n m) xs) below in
+    let d = and-both (not (member x xs)) (distinct xs) apart in
     let off = not-true (member x xs) (d .0) in
     let in-reach = ltb-true x m (b .0) in
     omega (

@@ -120,32 +120,40 @@ unfoldable pub faultOf : Band → ℕ → ℕ → ℕ
 faultOf b lowLevel highLevel = lowest (bandLines b ++ levelWrong lowLevel highLevel ∷ [])
 
 -- an empty profile is refused only by 1 (sizes), whatever the memory held
-unfoldable pub emptyRefusal : Bool → ℕ
-emptyRefusal sizesRight = lowest (sizesWrong sizesRight ∷ [])
+abbrev pub emptyLines : Bool → List Line
+emptyLines sizesRight = sizesWrong sizesRight ∷ []
 
--- insert: 1 to 8, 11, 12; the state after the call decides 11 and 12
-unfoldable pub insertRefusal : Bool → Bool → Room → Profile → Band → ℕ → ℕ → ℕ
-insertRefusal sizesRight sound room p b lowLevel highLevel =
-    lowest
-    (notSound sizesRight sound
+unfoldable pub emptyRefusal : Bool → ℕ
+emptyRefusal sizesRight = lowest (emptyLines sizesRight)
+
+-- insert: 1 to 8, 11, 12; nothing but the state after the call decides 11 and 12
+abbrev pub insertLines : Bool → Bool → Room → Profile → Band → ℕ → ℕ → List Line
+insertLines sizesRight sound room p b lowLevel highLevel =
+    notSound sizesRight sound
     ∷ bandLines b
     ++ levelWrong lowLevel highLevel
     ∷ numberLive p (b .number)
     ∷ nodesExceed room (inserted p b lowLevel highLevel)
     ∷ marksExceed room (inserted p b lowLevel highLevel)
-    ∷ [])
+    ∷ []
+
+unfoldable pub insertRefusal : Bool → Bool → Room → Profile → Band → ℕ → ℕ → ℕ
+insertRefusal sizesRight sound room p b lowLevel highLevel =
+    lowest (insertLines sizesRight sound room p b lowLevel highLevel)
 
 -- remove: 1, 2, 3, 9, 10, 12; nodes never grow, so 11 is never given
-unfoldable pub removeRefusal : Bool → Bool → Room → Profile → ℕ → ℕ → ℕ
-removeRefusal sizesRight sound room p number scope =
-    lowest
-    (notSound sizesRight sound
+abbrev pub removeLines : Bool → Bool → Room → Profile → ℕ → ℕ → List Line
+removeLines sizesRight sound room p number scope =
+    notSound sizesRight sound
     ∷ scopeAbove scope
     ∷ numberAbove number
     ∷ numberNotLive p number
     ∷ scopeOther p number scope
     ∷ marksExceed room (removed p number)
-    ∷ [])
+    ∷ []
+
+unfoldable pub removeRefusal : Bool → Bool → Room → Profile → ℕ → ℕ → ℕ
+removeRefusal sizesRight sound room p number scope = lowest (removeLines sizesRight sound room p number scope)
 
 -- what a change comes to: the number it answers, 0 where it is accepted, and the profile after it
 pub record Change : Type 0 where
@@ -165,24 +173,39 @@ removeOf sizesRight sound room p number scope =
     changed (removeRefusal sizesRight sound room p number scope) p (removed p number)
 
 -- stab: 1 (sizes), 4
+abbrev pub stabLines : Bool → ℕ → List Line
+stabLines sizesRight k = sizesWrong sizesRight ∷ keyAbove k ∷ []
+
 unfoldable pub stabRefusal : Bool → ℕ → ℕ
-stabRefusal sizesRight k = lowest (sizesWrong sizesRight ∷ keyAbove k ∷ [])
+stabRefusal sizesRight k = lowest (stabLines sizesRight k)
 
 -- band readout: 1 (sizes), 3, 9
+abbrev pub bandReadLines : Bool → Profile → ℕ → List Line
+bandReadLines sizesRight p number = sizesWrong sizesRight ∷ numberAbove number ∷ numberNotLive p number ∷ []
+
 unfoldable pub bandRefusal : Bool → Profile → ℕ → ℕ
-bandRefusal sizesRight p number = lowest (sizesWrong sizesRight ∷ numberAbove number ∷ numberNotLive p number ∷ [])
+bandRefusal sizesRight p number = lowest (bandReadLines sizesRight p number)
 
 -- edge readout: 1 (sizes), 4, 13
+abbrev pub edgeReadLines : Bool → Profile → ℕ → ℕ → List Line
+edgeReadLines sizesRight p k i = sizesWrong sizesRight ∷ keyAbove k ∷ noNode p k ∷ noLane p k i ∷ []
+
 unfoldable pub edgeRefusal : Bool → Profile → ℕ → ℕ → ℕ
-edgeRefusal sizesRight p k i = lowest (sizesWrong sizesRight ∷ keyAbove k ∷ noNode p k ∷ noLane p k i ∷ [])
+edgeRefusal sizesRight p k i = lowest (edgeReadLines sizesRight p k i)
 
 -- node readout: 1 (sizes), 4, 13
+abbrev pub nodeReadLines : Bool → Profile → ℕ → List Line
+nodeReadLines sizesRight p k = sizesWrong sizesRight ∷ keyAbove k ∷ noNode p k ∷ []
+
 unfoldable pub nodeRefusal : Bool → Profile → ℕ → ℕ
-nodeRefusal sizesRight p k = lowest (sizesWrong sizesRight ∷ keyAbove k ∷ noNode p k ∷ [])
+nodeRefusal sizesRight p k = lowest (nodeReadLines sizesRight p k)
 
 -- room readout: 1 (sizes)
+abbrev pub roomLines : Bool → List Line
+roomLines sizesRight = sizesWrong sizesRight ∷ []
+
 unfoldable pub roomRefusal : Bool → ℕ
-roomRefusal sizesRight = lowest (sizesWrong sizesRight ∷ [])
+roomRefusal sizesRight = lowest (roomLines sizesRight)
 
 -- a stab or a readout answers its number, 0 where it is not refused, and what is read
 pub record Answered (A : Type 0) : Type 0 where

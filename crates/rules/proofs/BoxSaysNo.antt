@@ -1,0 +1,371 @@
+-- "When the box says no": what each line of the table says in plain arithmetic and membership,
+-- that the lowest number that applies is given, and what a band and each call are like that nothing refuses.
+-- Assumes nothing.
+use Prim.Native.Nat.{ℕ, _≤_, _<_}
+use mathlib.Core.Path.{_≡_, refl, sym, _∙_, subst}
+use mathlib.Core.Bool.{Bool, true, false, cond}
+use mathlib.Core.Logic.{_↔_, Iff·trans, _⊎_, inl, inr}
+use mathlib.Core.List.{List, [], _∷_, _++_}
+use native.Mathlib.Omega.{arith}
+use lib.ListN.{length}
+use Rattle.rules.specs.HallLine.{Band, highestKey, highestNumber, house, holds, holdsSome, withinScope}
+use Rattle.rules.specs.NodesLanesEdges.{lanes, isLevel, standsAt, levelAt}
+use Rattle.rules.specs.Profile.{Profile, isLive}
+use Rattle.rules.specs.Marks.{marksInUse}
+use Rattle.rules.specs.Changes.{inserted, removed}
+use Rattle.rules.specs.BoxSaysNo.{Room, inRange, Line, lowest, sizesWrong, notSound, scopeAbove, numberAbove, keyAbove, endAbove, holdsNone, endElsewhere, levelWrong, numberLive, numberNotLive, scopeOther, nodesExceed, marksExceed, noNode, noLane, bandLines, insertLines, removeLines, stabLines, bandReadLines, edgeReadLines, nodeReadLines, keyFault, bandFault, faultOf, insertRefusal, removeRefusal, emptyRefusal, stabRefusal, bandRefusal, edgeRefusal, nodeRefusal, roomRefusal}
+use Rattle.rules.proofs.Tests.{Means, Fails, never, reworded, itself, denied, not-means, not-fails, and-means, and-fails, and3-means, or-means, or-fails, implies-fails, lt-means, lt-fails, le-means, le-fails, eq-means, Some, Each, some-cons, each-cons, any-means, any-fails}
+use Rattle.rules.proofs.HallLine.{Own, own-key-means, holds-some-means}
+use Rattle.rules.proofs.NodesLanesEdges.{Level, is-level-means, NodeAt, stands-at-means}
+use Rattle.rules.proofs.Profile.{has-number-means, is-live-means}
+
+-- ---- each line
+
+pub in-range-means : (r : Room) → Means (inRange r) (((1 ≤ r .nodes) × (r .nodes ≤ 2048)) × ((1 ≤ r .marks) × (r .marks ≤ 16384)))
+unfolding inRange
+in-range-means r =
+    reworded
+    (and-means (le-means 1 (r .nodes)) (and3-means (le-means (r .nodes) 2048) (le-means 1 (r .marks)) (le-means (r .marks) 16384)))
+    (λ h. ((h .0, h .1 .0), (h .1 .1, h .1 .2)))
+    (λ h. (h .0 .0, (h .0 .1, h .1 .0, h .1 .1)))
+
+-- 1
+pub sizes-wrong-means : (sizesRight : Bool) → Means (sizesWrong sizesRight .applies) (sizesRight ≡ false)
+sizes-wrong-means s = not-means (itself s)
+
+pub not-sound-means : (sizesRight sound : Bool) → Means (notSound sizesRight sound .applies) ((sizesRight ≡ false) ⊎ (sound ≡ false))
+not-sound-means s t = not-means (and-fails (itself s) (itself t))
+
+-- 2
+pub scope-above-means : (s : ℕ) → Means (scopeAbove s .applies) (house < s)
+scope-above-means s = lt-means house s
+
+-- 3
+pub number-above-means : (n : ℕ) → Means (numberAbove n .applies) (highestNumber < n)
+number-above-means n = lt-means highestNumber n
+
+-- 4
+pub key-above-means : (k : ℕ) → Means (keyAbove k .applies) (highestKey < k)
+key-above-means k = lt-means highestKey k
+
+pub end-above-means : (b : Band) → Means (endAbove b .applies) ((highestKey < b .low) ⊎ (highestKey < b .high))
+end-above-means b = or-means (lt-means highestKey (b .low)) (lt-means highestKey (b .high))
+
+-- 5
+pub holds-none-means : (b : Band) → Means (holdsNone b .applies) ((k : ℕ) → holds b k ≡ true → ⊥)
+holds-none-means b = reworded (not-means (denied (holds-some-means b))) (λ h k e. h (k, e)) (λ h s. h (s .0) (s .1))
+
+-- 6
+pub end-elsewhere-means :
+    (b : Band)
+    → Means (endElsewhere b .applies)
+    ((b .scope ≡ house → ⊥) × ((Own (b .scope) (b .low) → ⊥) ⊎ (Own (b .scope) (b .high) → ⊥)))
+unfolding withinScope
+end-elsewhere-means b =
+    not-means
+    (or-fails
+    (denied (eq-means (b .scope) house))
+    (and-fails (denied (own-key-means (b .scope) (b .low))) (denied (own-key-means (b .scope) (b .high)))))
+
+-- 7
+pub is-level-fails : (l : ℕ) → Fails (isLevel l) ((l < 1) ⊎ (lanes < l))
+unfolding isLevel
+is-level-fails l = and-fails (le-fails 1 l) (le-fails l lanes)
+
+pub level-wrong-means : (lo hi : ℕ) → Means (levelWrong lo hi .applies) (((lo < 1) ⊎ (lanes < lo)) ⊎ ((hi < 1) ⊎ (lanes < hi)))
+level-wrong-means lo hi = not-means (and-fails (is-level-fails lo) (is-level-fails hi))
+
+module _ (p : Profile) where
+  -- 8
+  pub number-live-means : (n : ℕ) → Means (numberLive p n .applies) (Some (λ b. b .number ≡ n) (p .bands))
+  number-live-means n = is-live-means n (p .bands)
+
+  -- 9
+  pub number-not-live-means : (n : ℕ) → Means (numberNotLive p n .applies) (Each (λ b. b .number ≡ n → ⊥) (p .bands))
+  unfolding isLive
+  number-not-live-means n = not-means (any-fails (λ b. denied (has-number-means n b)) (p .bands))
+
+  -- 10
+  pub scope-other-means : (n s : ℕ) → Means (scopeOther p n s .applies) (Some (λ b. (b .number ≡ n) × (b .scope ≡ s → ⊥)) (p .bands))
+  scope-other-means n s = any-means (λ b. and-means (has-number-means n b) (not-means (denied (eq-means (b .scope) s)))) (p .bands)
+
+  -- 13
+  pub no-node-means : (k : ℕ) → Means (noNode p k .applies) (Each (λ n. n .key ≡ k → ⊥) (p .nodes))
+  unfolding standsAt
+  no-node-means k = not-means (any-fails (λ n. denied (eq-means (n .key) k)) (p .nodes))
+
+  pub no-lane-means : (k i : ℕ) → Means (noLane p k i .applies) (levelAt k (p .nodes) ≤ i)
+  no-lane-means k i = not-means (lt-fails i (levelAt k (p .nodes)))
+
+module _ (room : Room) (after : Profile) where
+  -- 11
+  pub nodes-exceed-means : Means (nodesExceed room after .applies) (room .nodes < length (after .nodes))
+  nodes-exceed-means = lt-means (room .nodes) (length (after .nodes))
+
+  -- 12
+  pub marks-exceed-means : Means (marksExceed room after .applies) (room .marks < marksInUse after)
+  marks-exceed-means = lt-means (room .marks) (marksInUse after)
+
+-- ---- the lowest number that applies
+
+-- the first line decides where it applies ..
+pub lowest-here : (l : Line) (ls : List Line) → l .applies ≡ true → lowest (l ∷ ls) ≡ l .refusal
+lowest-here l ls e = rw e
+
+-- .. and where it does not, the others do
+pub lowest-next : (l : Line) (ls : List Line) → l .applies ≡ false → lowest (l ∷ ls) ≡ lowest ls
+lowest-next l ls e = rw e
+
+-- lines of which none applies are passed over
+pub lowest-past : (xs ys : List Line) → Each (λ l. l .applies ≡ false) xs → lowest (xs ++ ys) ≡ lowest ys
+lowest-past [] ys h = refl
+lowest-past (l ∷ ls) ys h = lowest-next l (ls ++ ys) (h l (inl refl)) ∙ lowest-past ls ys (λ m i. h m (inr i))
+
+-- the first line that applies is given
+pub lowest-first : (xs : List Line) (l : Line) (ys : List Line) → Each (λ m. m .applies ≡ false) xs → l .applies ≡ true
+    → lowest (xs ++ l ∷ ys) ≡ l .refusal
+lowest-first xs l ys h e = lowest-past xs (l ∷ ys) h ∙ lowest-here l ys e
+
+-- where lines give a number, lines after them change nothing
+pub lowest-enough : (xs ys : List Line) → (lowest xs ≡ 0 → ⊥) → lowest (xs ++ ys) ≡ lowest xs
+lowest-enough [] ys h = absurd (h refl)
+lowest-enough (l ∷ ls) ys h = go (l .applies) refl (lowest-enough ls ys)
+  where
+    go : (t : Bool) → l .applies ≡ t → ((lowest ls ≡ 0 → ⊥) → lowest (ls ++ ys) ≡ lowest ls) → lowest (l ∷ ls ++ ys) ≡ lowest (l ∷ ls)
+    go true e ih = rw e
+    go false e ih = rw e (ih (λ z. h (lowest-next l ls e ∙ z)))
+
+-- the lines' numbers ascend, the first at least c; neighbours may have one number
+abbrev pub Ordered : ℕ → List Line → Type 0
+Ordered c [] = Unit {0}
+Ordered c (l ∷ ls) = (c ≤ l .refusal) × Ordered (l .refusal) ls
+
+ordered-lower : (c d : ℕ) (ls : List Line) → c ≤ d → Ordered d ls → Ordered c ls
+ordered-lower c d [] h o = tt
+ordered-lower c d (l ∷ ls) h o = (omega arith, o .1)
+
+ordered-from : (c : ℕ) (ls : List Line) → Ordered c ls → Each (λ l. c ≤ l .refusal) ls
+ordered-from c [] o = λ l i. absurd i
+ordered-from c (l ∷ ls) o = each-cons l ls .1 (o .0, ordered-from c ls (ordered-lower c (l .refusal) ls (o .0) (o .1)))
+
+-- nothing is given by a line and what is given after it exactly when the line does not apply and nothing is given after it
+pub line-zero : {a : Bool} {n : ℕ} {X Y : Type 0} (r : ℕ) → 0 < r → Fails a X → (n ≡ 0) ↔ Y → (cond a r n ≡ 0) ↔ (X × Y)
+line-zero {a = true} r h m e = (λ z. absurd (omega arith), λ p. never (sym (m .test (p .0))))
+line-zero {a = false} r h m e = (λ z. (m .fact refl, e .0 z), λ p. e .1 (p .1))
+
+-- the same for the last line
+pub last-zero : {a : Bool} {X : Type 0} (r : ℕ) → 0 < r → Fails a X → (cond a r 0 ≡ 0) ↔ X
+last-zero {a = true} r h m = (λ z. absurd (omega arith), λ x. never (sym (m .test x)))
+last-zero {a = false} r h m = (λ z. m .fact refl, λ x. refl)
+
+-- of lines in order 0 is given exactly when none applies
+pub lowest-zero : (ls : List Line) → Ordered 1 ls → (lowest ls ≡ 0) ↔ Each (λ l. l .applies ≡ false) ls
+lowest-zero [] o = (λ z l i. absurd i, λ h. refl)
+lowest-zero (l ∷ ls) o =
+    let e = line-zero (l .refusal) (o .0) (itself (l .applies)) (lowest-zero ls (ordered-lower 1 (l .refusal) ls (o .0) (o .1))) in
+    (λ z. each-cons l ls .1 (e .0 z), λ h. e .1 (each-cons l ls .0 h))
+
+-- a line of that number applies, and no line that applies has a lower number
+abbrev pub Given : List Line → ℕ → Type 0
+Given ls n = Some (λ l. (l .applies ≡ true) × (l .refusal ≡ n)) ls × Each (λ l. l .applies ≡ true → n ≤ l .refusal) ls
+
+given : (c : ℕ) (ls : List Line) → Ordered c ls → (lowest ls ≡ 0 → ⊥) → Given ls (lowest ls)
+given c [] o h = absurd (h refl)
+given c (l ∷ ls) o h = go (l .applies) refl (given (l .refusal) ls (o .1))
+  where
+    go : (t : Bool) → l .applies ≡ t → ((lowest ls ≡ 0 → ⊥) → Given ls (lowest ls)) → Given (l ∷ ls) (lowest (l ∷ ls))
+    go true e ih =
+        subst (Given (l ∷ ls)) (sym (lowest-here l ls e))
+        ((l, inl refl, (e, refl)), λ m i a. ordered-from (l .refusal) (l ∷ ls) (omega arith, o .1) m i)
+    go false e ih =
+        let g = ih (λ z. h (lowest-next l ls e ∙ z)) in
+        subst (Given (l ∷ ls)) (sym (lowest-next l ls e))
+        (some-cons l ls .1 (inr (g .0)), each-cons l ls .1 (λ a. never (sym e ∙ a), g .1))
+
+-- .. and another number exactly when a line of that number applies and none that applies has a lower number
+pub lowest-given : (ls : List Line) → Ordered 1 ls → (n : ℕ) → 0 < n → (lowest ls ≡ n) ↔ Given ls n
+lowest-given ls o n h = (λ e. subst (Given ls) e (given 1 ls o (λ z. omega arith)), same)
+  where
+    same : Given ls n → lowest ls ≡ n
+    same g =
+        let g′ = given 1 ls o (λ z. never (sym (lowest-zero ls o .0 z (g .0 .0) (g .0 .1)) ∙ g .0 .2 .0)) in
+        let a = g .1 (g′ .0 .0) (g′ .0 .1) (g′ .0 .2 .0) in
+        let b = g′ .1 (g .0 .0) (g .0 .1) (g .0 .2 .0) in
+        omega arith
+
+-- The lines of each call stand in order, so that `lowest-zero` and `lowest-given` say exactly when it gives 0 and each number.
+module _ (sizesRight sound : Bool) (room : Room) (p : Profile) where
+  pub insert-ordered : (b : Band) (lo hi : ℕ) → Ordered 1 (insertLines sizesRight sound room p b lo hi)
+  insert-ordered b lo hi = omega arith
+
+  pub remove-ordered : (number scope : ℕ) → Ordered 1 (removeLines sizesRight sound room p number scope)
+  remove-ordered number scope = omega arith
+
+module _ (sizesRight : Bool) (p : Profile) where
+  pub stab-ordered : (k : ℕ) → Ordered 1 (stabLines sizesRight k)
+  stab-ordered k = omega arith
+
+  pub band-ordered : (n : ℕ) → Ordered 1 (bandReadLines sizesRight p n)
+  band-ordered n = omega arith
+
+  pub edge-ordered : (k i : ℕ) → Ordered 1 (edgeReadLines sizesRight p k i)
+  edge-ordered k i = omega arith
+
+  pub node-ordered : (k : ℕ) → Ordered 1 (nodeReadLines sizesRight p k)
+  node-ordered k = omega arith
+
+-- ---- what nothing refuses
+
+-- a band that is right by 2 to 6
+pub record BandRight (b : Band) : Type 0 where
+  pub scope-right : b .scope ≤ house
+  pub number-right : b .number ≤ highestNumber
+  pub low-on-line : b .low ≤ highestKey
+  pub high-on-line : b .high ≤ highestKey
+  pub holds-key : holdsSome b ≡ true
+  pub in-scope : withinScope b ≡ true
+
+-- nothing is given by 2 to 6 and lines after them exactly when the band is right and nothing is given by the lines after them
+pub band-lines-zero : {X : Type 0} (b : Band) (ls : List Line) → (lowest ls ≡ 0) ↔ X → (lowest (bandLines b ++ ls) ≡ 0) ↔ (BandRight b × X)
+band-lines-zero b ls e =
+    Iff·trans
+    (line-zero 2 (omega arith) (lt-fails house (b .scope))
+    (line-zero 3 (omega arith) (lt-fails highestNumber (b .number))
+    (line-zero 4 (omega arith) (or-fails (lt-fails highestKey (b .low)) (lt-fails highestKey (b .high)))
+    (line-zero 5 (omega arith) (not-fails (itself (holdsSome b)))
+    (line-zero 6 (omega arith) (not-fails (itself (withinScope b))) e))))) (
+      λ h. (
+        record {
+          scope-right = h .0;
+          number-right = h .1 .0;
+          low-on-line = h .1 .1 .0 .0;
+          high-on-line = h .1 .1 .0 .1;
+          holds-key = h .1 .1 .1 .0;
+          in-scope = h .1 .1 .1 .1 .0;
+        },
+        h .1 .1 .1 .1 .1,
+      ),
+      λ h. (h .0 .scope-right, (h .0 .number-right, ((h .0 .low-on-line, h .0 .high-on-line), (h .0 .holds-key, (h .0 .in-scope, h .1))))),
+    )
+
+pub key-fault-zero : (k : ℕ) → (keyFault k ≡ 0) ↔ (k ≤ highestKey)
+unfolding keyFault
+key-fault-zero k = last-zero 4 (omega arith) (lt-fails highestKey k)
+
+pub band-fault-zero : (b : Band) → (bandFault b ≡ 0) ↔ BandRight b
+unfolding bandFault
+band-fault-zero b = let e = band-lines-zero {X = Unit {0}} b [] (λ z. tt, λ x. refl) in (λ z. e .0 z .0, λ r. e .1 (r, tt))
+
+module _ (b : Band) (lo hi : ℕ) where
+  pub fault-zero : (faultOf b lo hi ≡ 0) ↔ (BandRight b × (Level lo × Level hi))
+  unfolding faultOf
+  fault-zero =
+      band-lines-zero b (levelWrong lo hi ∷ [])
+      (last-zero 7 (omega arith) (not-fails (and-means (is-level-means lo) (is-level-means hi))))
+
+  -- a band's own fault comes first ..
+  pub fault-of-band : (bandFault b ≡ 0 → ⊥) → faultOf b lo hi ≡ bandFault b
+  unfolding bandFault faultOf
+  fault-of-band h = lowest-enough (bandLines b) (levelWrong lo hi ∷ []) h
+
+  -- .. and where it has none the levels decide
+  pub fault-of-levels : bandFault b ≡ 0 → faultOf b lo hi ≡ lowest (levelWrong lo hi ∷ [])
+  unfolding bandFault faultOf
+  fault-of-levels z = lowest-past (bandLines b) (levelWrong lo hi ∷ []) (lowest-zero (bandLines b) (omega arith) .0 z)
+
+-- an insert that nothing refuses
+pub record InsertTaken (sizesRight sound : Bool) (room : Room) (p : Profile) (b : Band) (lo hi : ℕ) : Type 0 where
+  pub memory-right : (sizesRight ≡ true) × (sound ≡ true)
+  pub band-right : BandRight b
+  pub levels-right : Level lo × Level hi
+  pub number-free : Each (λ c. c .number ≡ b .number → ⊥) (p .bands)
+  pub nodes-fit : length (inserted p b lo hi .nodes) ≤ room .nodes
+  pub marks-fit : marksInUse (inserted p b lo hi) ≤ room .marks
+
+-- a remove that nothing refuses
+pub record RemoveTaken (sizesRight sound : Bool) (room : Room) (p : Profile) (number scope : ℕ) : Type 0 where
+  pub memory-right : (sizesRight ≡ true) × (sound ≡ true)
+  pub scope-right : scope ≤ house
+  pub number-right : number ≤ highestNumber
+  pub number-live : Some (λ b. b .number ≡ number) (p .bands)
+  pub scope-same : Each (λ b. b .number ≡ number → b .scope ≡ scope) (p .bands)
+  pub marks-fit : marksInUse (removed p number) ≤ room .marks
+
+module _ (sizesRight sound : Bool) (room : Room) (p : Profile) where
+  pub insert-taken : (b : Band) (lo hi : ℕ) → (insertRefusal sizesRight sound room p b lo hi ≡ 0) ↔ InsertTaken sizesRight sound room p b lo hi
+  unfolding insertRefusal isLive
+  insert-taken b lo hi =
+      Iff·trans
+      (line-zero 1 (omega arith) (not-fails (and-means (itself sizesRight) (itself sound)))
+      (band-lines-zero b
+      (levelWrong lo hi ∷ numberLive p (b .number) ∷ nodesExceed room (inserted p b lo hi) ∷ marksExceed room (inserted p b lo hi) ∷ [])
+      (line-zero 7 (omega arith) (not-fails (and-means (is-level-means lo) (is-level-means hi)))
+      (line-zero 8 (omega arith) (any-fails (λ c. denied (has-number-means (b .number) c)) (p .bands))
+      (line-zero 11 (omega arith) (lt-fails (room .nodes) (length (inserted p b lo hi .nodes)))
+      (last-zero 12 (omega arith) (lt-fails (room .marks) (marksInUse (inserted p b lo hi))))))))) (
+        λ h. record {
+          memory-right = h .0;
+          band-right = h .1 .0;
+          levels-right = h .1 .1 .0;
+          number-free = h .1 .1 .1 .0;
+          nodes-fit = h .1 .1 .1 .1 .0;
+          marks-fit = h .1 .1 .1 .1 .1;
+        },
+        λ t. (t .memory-right, (t .band-right, (t .levels-right, (t .number-free, (t .nodes-fit, t .marks-fit))))),
+      )
+
+  pub remove-taken : (number scope : ℕ) → (removeRefusal sizesRight sound room p number scope ≡ 0) ↔ RemoveTaken sizesRight sound room p number scope
+  unfolding removeRefusal
+  remove-taken number scope =
+      Iff·trans
+      (line-zero 1 (omega arith) (not-fails (and-means (itself sizesRight) (itself sound)))
+      (line-zero 2 (omega arith) (lt-fails house scope)
+      (line-zero 3 (omega arith) (lt-fails highestNumber number)
+      (line-zero 9 (omega arith) (not-fails (is-live-means number (p .bands)))
+      (line-zero 10 (omega arith) (any-fails (λ b. implies-fails (has-number-means number b) (eq-means (b .scope) scope)) (p .bands))
+      (last-zero 12 (omega arith) (lt-fails (room .marks) (marksInUse (removed p number))))))))) (
+        λ h. record {
+          memory-right = h .0;
+          scope-right = h .1 .0;
+          number-right = h .1 .1 .0;
+          number-live = h .1 .1 .1 .0;
+          scope-same = h .1 .1 .1 .1 .0;
+          marks-fit = h .1 .1 .1 .1 .1;
+        },
+        λ t. (t .memory-right, (t .scope-right, (t .number-right, (t .number-live, (t .scope-same, t .marks-fit))))),
+      )
+
+module _ (sizesRight : Bool) where
+  pub empty-taken : (emptyRefusal sizesRight ≡ 0) ↔ (sizesRight ≡ true)
+  unfolding emptyRefusal
+  empty-taken = last-zero 1 (omega arith) (not-fails (itself sizesRight))
+
+  pub room-taken : (roomRefusal sizesRight ≡ 0) ↔ (sizesRight ≡ true)
+  unfolding roomRefusal
+  room-taken = last-zero 1 (omega arith) (not-fails (itself sizesRight))
+
+  pub stab-taken : (k : ℕ) → (stabRefusal sizesRight k ≡ 0) ↔ ((sizesRight ≡ true) × (k ≤ highestKey))
+  unfolding stabRefusal
+  stab-taken k = line-zero 1 (omega arith) (not-fails (itself sizesRight)) (last-zero 4 (omega arith) (lt-fails highestKey k))
+
+  module _ (p : Profile) where
+    pub band-taken : (n : ℕ) → (bandRefusal sizesRight p n ≡ 0) ↔ ((sizesRight ≡ true) × ((n ≤ highestNumber) × Some (λ b. b .number ≡ n) (p .bands)))
+    unfolding bandRefusal
+    band-taken n =
+        line-zero 1 (omega arith) (not-fails (itself sizesRight))
+        (line-zero 3 (omega arith) (lt-fails highestNumber n) (last-zero 9 (omega arith) (not-fails (is-live-means n (p .bands)))))
+
+    pub node-taken : (k : ℕ) → (nodeRefusal sizesRight p k ≡ 0) ↔ ((sizesRight ≡ true) × ((k ≤ highestKey) × NodeAt k (p .nodes)))
+    unfolding nodeRefusal
+    node-taken k =
+        line-zero 1 (omega arith) (not-fails (itself sizesRight))
+        (line-zero 4 (omega arith) (lt-fails highestKey k) (last-zero 13 (omega arith) (not-fails (stands-at-means k (p .nodes)))))
+
+    pub edge-taken : (k i : ℕ)
+        → (edgeRefusal sizesRight p k i ≡ 0) ↔ ((sizesRight ≡ true) × ((k ≤ highestKey) × (NodeAt k (p .nodes) × (i < levelAt k (p .nodes)))))
+    unfolding edgeRefusal
+    edge-taken k i =
+        line-zero 1 (omega arith) (not-fails (itself sizesRight))
+        (line-zero 4 (omega arith) (lt-fails highestKey k)
+        (line-zero 13 (omega arith) (not-fails (stands-at-means k (p .nodes)))
+        (last-zero 13 (omega arith) (not-fails (lt-means i (levelAt k (p .nodes)))))))

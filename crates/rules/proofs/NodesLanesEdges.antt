@@ -1,0 +1,148 @@
+-- "Nodes, lanes, edges": levels, where nodes stand, whose ends they are and who takes part in a lane, to and from membership and arithmetic;
+-- of nodes in key order, that an edge joins two that are next to each other, and that the level at a key is the level of the node there.
+-- Assumes nothing.
+use Prim.Native.Nat.{ℕ, suc, _≤_, _<_}
+use mathlib.Core.Path.{_≡_, refl, sym, ap, subst}
+use mathlib.Core.Bool.{Bool, true, false}
+use mathlib.Core.Logic.{_↔_, _⊎_, inl, inr, ⊎-elim, ⊎-map}
+use mathlib.Core.List.{List, [], _∷_}
+use native.Mathlib.Omega.{arith}
+use borrow.Author.Tests.{eq-eqb, ne-eqb}
+use Rattle.rules.specs.Tests.{addIf}
+use Rattle.rules.specs.HallLine.{Band}
+use Rattle.rules.specs.NodesLanesEdges.{Node, Edge, edgeOf, lanes, isLevel, takesPart, laneOf, edgesFrom, neighbours, edgesOf, levelAt, standsAt, isEnd, isEndOfSome, endsStand, onlyEndsStand}
+use Rattle.rules.proofs.Tests.{Means, and-means, or-means, lt-means, le-means, eq-means, In, Some, Each, each-cons, any-means, all-means, in-made, Ascends, ascends-lower, ascends-from}
+
+-- a level is 1 to 8
+abbrev pub Level : ℕ → Type 0
+Level l = (1 ≤ l) × (l ≤ lanes)
+
+pub is-level-means : (l : ℕ) → Means (isLevel l) (Level l)
+unfolding isLevel
+is-level-means l = and-means (le-means 1 l) (le-means l lanes)
+
+pub takes-part-means : (i : ℕ) (n : Node) → Means (takesPart i n) (i < n .level)
+unfolding takesPart
+takes-part-means i n = lt-means i (n .level)
+
+-- the keys of a lane are those of the nodes that take part in it
+pub in-lane : (i k : ℕ) (ns : List Node) → In k (laneOf i ns) ↔ Some (λ n. (i < n .level) × (n .key ≡ k)) ns
+in-lane i k ns = in-made (takes-part-means i) (λ n. n .key) (laneOf i) refl (λ n ns. refl) k ns
+
+-- a node stands at the key
+abbrev pub NodeAt : ℕ → List Node → Type 0
+NodeAt k ns = Some (λ n. n .key ≡ k) ns
+
+pub stands-at-means : (k : ℕ) (ns : List Node) → Means (standsAt k ns) (NodeAt k ns)
+unfolding standsAt
+stands-at-means k ns = any-means (λ n. eq-means (n .key) k) ns
+
+-- the key is an end of the band
+abbrev pub EndOf : ℕ → Band → Type 0
+EndOf k b = (k ≡ b .low) ⊎ (k ≡ b .high)
+
+pub is-end-means : (k : ℕ) (b : Band) → Means (isEnd k b) (EndOf k b)
+unfolding isEnd
+is-end-means k b = or-means (eq-means k (b .low)) (eq-means k (b .high))
+
+pub is-end-of-some-means : (bs : List Band) (k : ℕ) → Means (isEndOfSome bs k) (Some (EndOf k) bs)
+unfolding isEndOfSome
+is-end-of-some-means bs k = any-means (is-end-means k) bs
+
+pub ends-stand-means : (bs : List Band) (ns : List Node) → Means (endsStand bs ns) (Each (λ b. NodeAt (b .low) ns × NodeAt (b .high) ns) bs)
+unfolding endsStand
+ends-stand-means bs ns = all-means (λ b. and-means (stands-at-means (b .low) ns) (stands-at-means (b .high) ns)) bs
+
+pub only-ends-stand-means : (bs : List Band) (ns : List Node) → Means (onlyEndsStand bs ns) (Each (λ n. Some (EndOf (n .key)) bs) ns)
+unfolding onlyEndsStand
+only-ends-stand-means bs ns = all-means (λ n. is-end-of-some-means bs (n .key)) ns
+
+-- ---- what is so of nodes in key order
+
+-- nodes ascend strictly by key, the first at least c
+abbrev pub Asc : ℕ → List Node → Type 0
+Asc = Ascends (λ n. n .key)
+
+-- a lane's keys ascend as the nodes do
+pub lane-ascends : (i c : ℕ) (ns : List Node) → Asc c ns → Ascends (λ k. k) c (laneOf i ns)
+lane-ascends i c [] a = tt
+lane-ascends i c (n ∷ ns) a = go (takesPart i n) (lane-ascends i (suc (n .key)) ns (a .1))
+  where
+    go : (t : Bool) → Ascends (λ k. k) (suc (n .key)) (laneOf i ns) → Ascends (λ k. k) c (addIf t (n .key) (laneOf i ns))
+    go true b = (a .0, b)
+    go false b = ascends-lower (λ k. k) c (suc (n .key)) (laneOf i ns) (omega arith) b
+
+-- the edge joins two keys of the list, the lower first, that are next to each other
+pub record Joins (e : Edge) (ks : List ℕ) : Type 0 where
+  pub from-in : In (e .from) ks
+  pub to-in : In (e .to) ks
+  pub upward : e .from < e .to
+  pub none-between : Each (λ k. (k ≤ e .from) ⊎ (e .to ≤ k)) ks
+
+module _ (e : Edge) (x y : ℕ) (ys : List ℕ) (a : Ascends (λ k. k) (suc x) (y ∷ ys)) where
+  joins-first : Joins (edgeOf x y) (x ∷ y ∷ ys)
+  joins-first =
+      record {
+        from-in = inl refl;
+        to-in = inr (inl refl);
+        upward = a .0;
+        none-between =
+            each-cons x (y ∷ ys) .1
+            (inl (omega arith), each-cons y ys .1 (inr (omega arith), λ k i. inr (omega (arith, ascends-from (λ k. k) (suc y) ys (a .1) k i))));
+      }
+
+  joins-later : Joins e (y ∷ ys) → Joins e (x ∷ y ∷ ys)
+  joins-later j =
+      record {
+        from-in = inr (j .from-in);
+        to-in = inr (j .to-in);
+        upward = j .upward;
+        none-between =
+            each-cons x (y ∷ ys) .1
+            (inl (omega (arith, ascends-from (λ k. k) (suc x) (y ∷ ys) a (e .from) (j .from-in))), j .none-between);
+      }
+
+  first-or-later : Joins e (x ∷ y ∷ ys) → (e ≡ edgeOf x y) ⊎ Joins e (y ∷ ys)
+  first-or-later j = go (j .from-in) (j .to-in)
+    where
+      go : In (e .from) (x ∷ y ∷ ys) → In (e .to) (x ∷ y ∷ ys) → (e ≡ edgeOf x y) ⊎ Joins e (y ∷ ys)
+      go (inl p) (inl q) = absurd (omega arith)
+      go (inl p) (inr (inl q)) = inl (λ i. edgeOf (p i) (q i))
+      go (inl p) (inr (inr t)) =
+          let u = ascends-from (λ k. k) (suc y) ys (a .1) (e .to) t in
+          ⊎-elim (λ l. absurd (omega arith)) (λ l. absurd (omega arith)) (j .none-between y (inr (inl refl)))
+      go (inr f) (inl q) = absurd (omega (arith, ascends-from (λ k. k) (suc x) (y ∷ ys) a (e .from) f))
+      go (inr f) (inr t) = inr (record { from-in = f; to-in = t; upward = j .upward; none-between = λ k i. j .none-between k (inr i) })
+
+edges-join : (e : Edge) (x : ℕ) (ks : List ℕ) → Ascends (λ k. k) (suc x) ks → In e (edgesFrom x ks) ↔ Joins e (x ∷ ks)
+edges-join e x [] a = (λ i. absurd i, λ j. go (j .from-in) (j .to-in) (j .upward))
+  where
+    go : In (e .from) (x ∷ []) → In (e .to) (x ∷ []) → e .from < e .to → ⊥
+    go (inl p) (inl q) u = omega arith
+    go (inl p) (inr t) u = t
+    go (inr f) t u = f
+edges-join e x (y ∷ ys) a = (
+  ⊎-elim (λ p. subst (λ f. Joins f (x ∷ y ∷ ys)) (sym p) (joins-first e x y ys a)) (λ i. joins-later e x y ys a (edges-join e y ys (a .1) .0 i)),
+  λ j. ⊎-map (λ p. p) (edges-join e y ys (a .1) .1) (first-or-later e x y ys a j),
+)
+
+neighbours-join : (c : ℕ) (e : Edge) (ks : List ℕ) → Ascends (λ k. k) c ks → In e (neighbours ks) ↔ Joins e ks
+neighbours-join c e [] a = (λ i. absurd i, λ j. j .from-in)
+neighbours-join c e (k ∷ ks) a = edges-join e k ks (a .1)
+
+-- an edge of a lane joins two nodes next to each other in that lane
+pub edge-rule : (i c : ℕ) (e : Edge) (ns : List Node) → Asc c ns → In e (edgesOf i ns) ↔ Joins e (laneOf i ns)
+edge-rule i c e ns a = neighbours-join c e (laneOf i ns) (lane-ascends i c ns a)
+
+-- the level of the node at a key ..
+pub level-there : (c : ℕ) (ns : List Node) → Asc c ns → Each (λ n. levelAt (n .key) ns ≡ n .level) ns
+level-there c [] a n i = absurd i
+level-there c (m ∷ ms) a n (inl p) = rw (eq-eqb (m .key) (n .key) (ap (λ z. z .key) (sym p))) (ap (λ z. z .level) (sym p))
+level-there c (m ∷ ms) a n (inr i) =
+    let l = ascends-from (λ z. z .key) (suc (m .key)) ms (a .1) n i in
+    rw (ne-eqb (m .key) (n .key) (λ e. omega arith)) (level-there (suc (m .key)) ms (a .1) n i)
+
+-- .. and 0 where none stands
+pub level-nowhere : (k : ℕ) (ns : List Node) → Each (λ n. n .key ≡ k → ⊥) ns → levelAt k ns ≡ 0
+level-nowhere k [] h = refl
+level-nowhere k (n ∷ ns) h = rw (ne-eqb (n .key) k (h n (inl refl))) (level-nowhere k ns (λ m i. h m (inr i)))

@@ -1,0 +1,347 @@
+-- What the tests of specs/Tests mean: laws that lead from a test to a plain fact and back.
+-- `Means t X`: the test t passes exactly when X. `Fails t X`: it fails exactly when X. Of either, `.fact` leads to X and `.test` back.
+-- Assumes nothing.
+use Prim.Native.Nat.{ℕ, zero, suc, _+_, _≤_, _<_}
+use mathlib.Core.Path.{_≡_, refl, sym, _∙_, ap, subst, subst⁻¹}
+use mathlib.Core.Bool.{Bool, true, false, not, false≢true}
+use mathlib.Core.Logic.{_↔_, _⊎_, inl, inr, ⊎-elim, ⊎-map}
+use mathlib.Core.List.{List, [], _∷_}
+use native.Mathlib.Omega.{arith}
+use native.Mathlib.Nat.{eq-or-lt-of-le}
+use lib.Dec.{leb, ltb, eqb}
+use borrow.Author.Tests.{ltb-true, ltb-false, leb-true, leb-false, eqb-true, not-true, not-false, lt-ltb, le-ltb, le-leb, lt-leb, eq-eqb}
+use Rattle.rules.specs.Tests.{_and_, _or_, addIf, any, all, keep, member, distinct, someLane}
+
+-- ---- one test, two tests
+
+-- nothing both passes and fails
+pub never {ℓ} : {X : Type ℓ} → false ≡ true → X
+never e = absurd (false≢true e)
+
+-- a test passes or fails, with the equation
+pub passes-or-fails : (t : Bool) → (t ≡ true) ⊎ (t ≡ false)
+passes-or-fails true = inl refl
+passes-or-fails false = inr refl
+
+-- tests that pass together are equal
+pub same-test : (a b : Bool) → (a ≡ true → b ≡ true) → (b ≡ true → a ≡ true) → a ≡ b
+same-test true true f g = refl
+same-test true false f g = sym (f refl)
+same-test false true f g = g refl
+same-test false false f g = refl
+
+pub and-both : (a b : Bool) → a and b ≡ true → (a ≡ true) × (b ≡ true)
+unfolding _and_
+and-both true b h = (refl, h)
+and-both false b h = never h
+
+pub both-and : (a b : Bool) → a ≡ true → b ≡ true → a and b ≡ true
+unfolding _and_
+both-and true b p q = q
+both-and false b p q = p
+
+pub and-false : (a b : Bool) → a and b ≡ false → (a ≡ false) ⊎ (b ≡ false)
+unfolding _and_
+and-false true b h = inr h
+and-false false b h = inl refl
+
+pub false-and : (a b : Bool) → (a ≡ false) ⊎ (b ≡ false) → a and b ≡ false
+unfolding _and_
+false-and true b (inl p) = never (sym p)
+false-and true b (inr q) = q
+false-and false b h = refl
+
+pub or-either : (a b : Bool) → a or b ≡ true → (a ≡ true) ⊎ (b ≡ true)
+unfolding _or_
+or-either true b h = inl refl
+or-either false b h = inr h
+
+pub either-or : (a b : Bool) → (a ≡ true) ⊎ (b ≡ true) → a or b ≡ true
+unfolding _or_
+either-or true b h = refl
+either-or false b (inl p) = never p
+either-or false b (inr q) = q
+
+pub or-left : (a b : Bool) → a ≡ true → a or b ≡ true
+or-left a b p = either-or a b (inl p)
+
+pub or-right : (a b : Bool) → b ≡ true → a or b ≡ true
+or-right a b q = either-or a b (inr q)
+
+pub or-false : (a b : Bool) → a or b ≡ false → (a ≡ false) × (b ≡ false)
+unfolding _or_
+or-false true b h = never (sym h)
+or-false false b h = (refl, h)
+
+pub false-or : (a b : Bool) → a ≡ false → b ≡ false → a or b ≡ false
+unfolding _or_
+false-or true b p q = p
+false-or false b p q = q
+
+-- ---- what a test means
+
+-- the test has the value exactly when the fact holds
+pub record When (t v : Bool) (X : Type 0) : Type 0 where
+  pub fact : t ≡ v → X
+  pub test : X → t ≡ v
+
+abbrev pub Means : Bool → Type 0 → Type 0
+Means t X = When t true X
+
+abbrev pub Fails : Bool → Type 0 → Type 0
+Fails t X = When t false X
+
+-- the fact in other words
+pub reworded : {t v : Bool} {X Y : Type 0} → When t v X → (X → Y) → (Y → X) → When t v Y
+reworded m f g = record { fact = λ e. f (m .fact e); test = λ y. m .test (g y) }
+
+-- a test of which nothing more is said
+pub itself : {v : Bool} (t : Bool) → When t v (t ≡ v)
+itself t = record { fact = λ e. e; test = λ e. e }
+
+module _ {t : Bool} {X : Type 0} where
+  pub denied : Means t X → Fails t (X → ⊥)
+  denied m =
+      record {
+        fact = λ e x. never (sym e ∙ m .test x);
+        test = λ n. ⊎-elim (λ e. absurd (n (m .fact e))) (λ e. e) (passes-or-fails t);
+      }
+
+  pub not-means : Fails t X → Means (not t) X
+  not-means m = record { fact = λ e. m .fact (not-true t e); test = λ x. ap not (m .test x) }
+
+  pub not-fails : Means t X → Fails (not t) X
+  not-fails m = record { fact = λ e. m .fact (not-false t e); test = λ x. ap not (m .test x) }
+
+module _ {a b : Bool} {X Y : Type 0} where
+  pub and-means : Means a X → Means b Y → Means (a and b) (X × Y)
+  and-means p q =
+      record {
+        fact = λ h. let s = and-both a b h in (p .fact (s .0), q .fact (s .1));
+        test = λ f. both-and a b (p .test (f .0)) (q .test (f .1));
+      }
+
+  pub and-fails : Fails a X → Fails b Y → Fails (a and b) (X ⊎ Y)
+  and-fails p q =
+      record {
+        fact = λ h. ⊎-map (p .fact) (q .fact) (and-false a b h);
+        test = λ f. false-and a b (⊎-map (p .test) (q .test) f);
+      }
+
+  pub or-means : Means a X → Means b Y → Means (a or b) (X ⊎ Y)
+  or-means p q =
+      record {
+        fact = λ h. ⊎-map (p .fact) (q .fact) (or-either a b h);
+        test = λ f. either-or a b (⊎-map (p .test) (q .test) f);
+      }
+
+  pub or-fails : Fails a X → Fails b Y → Fails (a or b) (X × Y)
+  or-fails p q =
+      record {
+        fact = λ h. let s = or-false a b h in (p .fact (s .0), q .fact (s .1));
+        test = λ f. false-or a b (p .test (f .0)) (q .test (f .1));
+      }
+
+  -- two tests are equal when their facts imply each other
+  pub same-means : Means a X → Means b Y → (X → Y) → (Y → X) → a ≡ b
+  same-means p q f g = same-test a b (λ e. q .test (f (p .fact e))) (λ e. p .test (g (q .fact e)))
+
+pub and3-means : {a b c : Bool} {X Y Z : Type 0} → Means a X → Means b Y → Means c Z → Means (a and b and c) (X × Y × Z)
+and3-means p q r = reworded (and-means p (and-means q r)) (λ h. (h .0, h .1 .0, h .1 .1)) (λ h. (h .0, (h .1, h .2)))
+
+-- the first does not pass without the second
+pub implies-fails : {a b : Bool} {X Y : Type 0} → Means a X → Means b Y → Fails (a and not b) (X → Y)
+implies-fails {a} {b} p q =
+    record {
+      fact = λ h x. ⊎-elim (λ e. never (sym e ∙ p .test x)) (λ e. q .fact (not-false b e)) (and-false a (not b) h);
+      test = λ f. denied (and-means p (not-means (denied q))) .test (λ h. h .1 (f (h .0)));
+    }
+
+module _ (x y : ℕ) where
+  pub lt-means : Means (ltb x y) (x < y)
+  lt-means = record { fact = ltb-true x y; test = lt-ltb x y }
+
+  pub lt-fails : Fails (ltb x y) (y ≤ x)
+  lt-fails = record { fact = ltb-false x y; test = le-ltb x y }
+
+  pub le-means : Means (leb x y) (x ≤ y)
+  le-means = record { fact = leb-true x y; test = le-leb x y }
+
+  pub le-fails : Fails (leb x y) (y < x)
+  le-fails = record { fact = leb-false x y; test = lt-leb x y }
+
+  pub eq-means : Means (eqb x y) (x ≡ y)
+  eq-means = record { fact = eqb-true x y; test = eq-eqb x y }
+
+-- ---- lists
+
+module _ {A : Type 0} where
+  -- x stands in the list
+  abbrev pub In : A → List A → Type 0
+  In x [] = ⊥
+  In x (y ∷ ys) = (x ≡ y) ⊎ In x ys
+
+  -- some element of the list is so
+  abbrev pub Some : (A → Type 0) → List A → Type 0
+  Some P xs = (x : A) × In x xs × P x
+
+  -- each element of the list is so
+  abbrev pub Each : (A → Type 0) → List A → Type 0
+  Each P xs = (x : A) → In x xs → P x
+
+module _ {A : Type 0} {P : A → Type 0} (x : A) (xs : List A) where
+  pub some-cons : Some P (x ∷ xs) ↔ (P x ⊎ Some P xs)
+  some-cons = (λ s. first (s .0) (s .1) (s .2), ⊎-elim (λ p. (x, inl refl, p)) (λ s. (s .0, inr (s .1), s .2)))
+    where
+      first : (y : A) → In y (x ∷ xs) → P y → P x ⊎ Some P xs
+      first y (inl e) p = inl (subst P e p)
+      first y (inr i) p = inr (y, i, p)
+
+  pub each-cons : Each P (x ∷ xs) ↔ (P x × Each P xs)
+  each-cons = (λ h. (h x (inl refl), λ y i. h y (inr i)), join)
+    where
+      join : P x × Each P xs → Each P (x ∷ xs)
+      join h y (inl e) = subst P (sym e) (h .0)
+      join h y (inr i) = h .1 y i
+
+module _ {A : Type 0} {f : A → Bool} {P : A → Type 0} where
+  pub any-means : ((x : A) → Means (f x) (P x)) → (xs : List A) → Means (any f xs) (Some P xs)
+  any-means m [] = record { fact = never; test = λ s. absurd (s .1) }
+  any-means m (x ∷ xs) = reworded (or-means (m x) (any-means m xs)) (some-cons x xs .1) (some-cons x xs .0)
+
+  pub any-fails : ((x : A) → Fails (f x) (P x)) → (xs : List A) → Fails (any f xs) (Each P xs)
+  any-fails m [] = record { fact = λ e x i. absurd i; test = λ h. refl }
+  any-fails m (x ∷ xs) = reworded (or-fails (m x) (any-fails m xs)) (each-cons x xs .1) (each-cons x xs .0)
+
+  pub all-means : ((x : A) → Means (f x) (P x)) → (xs : List A) → Means (all f xs) (Each P xs)
+  all-means m [] = record { fact = λ e x i. absurd i; test = λ h. refl }
+  all-means m (x ∷ xs) = reworded (and-means (m x) (all-means m xs)) (each-cons x xs .1) (each-cons x xs .0)
+
+  pub all-fails : ((x : A) → Fails (f x) (P x)) → (xs : List A) → Fails (all f xs) (Some P xs)
+  all-fails m [] = record { fact = λ e. never (sym e); test = λ s. absurd (s .1) }
+  all-fails m (x ∷ xs) = reworded (and-fails (m x) (all-fails m xs)) (some-cons x xs .1) (some-cons x xs .0)
+
+-- the same with the test itself for the fact
+module _ {A : Type 0} (f : A → Bool) (xs : List A) where
+  pub any-some : any f xs ≡ true → Some (λ x. f x ≡ true) xs
+  any-some = any-means (λ x. itself (f x)) xs .fact
+
+  pub some-any : (x : A) → In x xs → f x ≡ true → any f xs ≡ true
+  some-any x i p = any-means (λ y. itself (f y)) xs .test (x, i, p)
+
+  pub any-none : any f xs ≡ false → Each (λ x. f x ≡ false) xs
+  any-none = any-fails (λ x. itself (f x)) xs .fact
+
+  pub none-any : Each (λ x. f x ≡ false) xs → any f xs ≡ false
+  none-any = any-fails (λ x. itself (f x)) xs .test
+
+  pub all-each : all f xs ≡ true → Each (λ x. f x ≡ true) xs
+  all-each = all-means (λ x. itself (f x)) xs .fact
+
+  pub each-all : Each (λ x. f x ≡ true) xs → all f xs ≡ true
+  each-all = all-means (λ x. itself (f x)) xs .test
+
+pub member-means : (n : ℕ) (xs : List ℕ) → Means (member n xs) (In n xs)
+member-means n xs = reworded (any-means (eq-means n) xs) (λ s. subst (λ x. In x xs) (sym (s .2)) (s .1)) (λ i. (n, i, refl))
+
+-- no number stands twice
+abbrev pub Distinct : List ℕ → Type 0
+Distinct [] = Unit {0}
+Distinct (x ∷ xs) = (In x xs → ⊥) × Distinct xs
+
+pub distinct-means : (xs : List ℕ) → Means (distinct xs) (Distinct xs)
+distinct-means [] = record { fact = λ e. tt; test = λ d. refl }
+distinct-means (x ∷ xs) = and-means (not-means (denied (member-means x xs))) (distinct-means xs)
+
+pub in-addIf : {A : Type 0} (t : Bool) (x y : A) (xs : List A) → In y (addIf t x xs) ↔ (((t ≡ true) × (y ≡ x)) ⊎ In y xs)
+in-addIf true x y xs = (⊎-map (λ e. (refl, e)) (λ i. i), ⊎-map (λ p. p .1) (λ i. i))
+in-addIf false x y xs = (inr, ⊎-elim (λ p. never (p .0)) (λ i. i))
+
+-- who stands in a list that is made by going through another and adding, of each element that passes, what is taken of it
+module _ {A B : Type 0} {f : A → Bool} {P : A → Type 0} (m : (x : A) → Means (f x) (P x)) (taken : A → B) (made : List A → List B)
+    (none : made [] ≡ []) (more : (x : A) (xs : List A) → made (x ∷ xs) ≡ addIf (f x) (taken x) (made xs)) where
+  pub in-made : (y : B) (xs : List A) → In y (made xs) ↔ Some (λ x. P x × (taken x ≡ y)) xs
+  in-made y [] = (λ i. absurd (subst (In y) none i), λ s. absurd (s .1))
+  in-made y (x ∷ xs) = (
+    λ i. some-cons x xs .1 (⊎-map (λ p. (m x .fact (p .0), sym (p .1))) (in-made y xs .0) (in-addIf (f x) _ _ _ .0 (subst (In y) (more x xs) i))),
+    λ s. subst⁻¹ (In y) (more x xs) (in-addIf (f x) _ _ _ .1 (⊎-map (λ q. (m x .test (q .0), sym (q .1))) (in-made y xs .1) (some-cons x xs .0 s))),
+  )
+
+pub in-keep : {A : Type 0} (f : A → Bool) (x : A) (xs : List A) → In x (keep f xs) ↔ (In x xs × (f x ≡ true))
+in-keep f x xs =
+    let e = in-made (λ y. itself (f y)) (λ y. y) (keep f) refl (λ y ys. refl) x xs in (
+      λ i. let s = e .0 i in (subst (λ z. In z xs) (s .2 .1) (s .1), subst (λ z. f z ≡ true) (s .2 .1) (s .2 .0)),
+      λ h. e .1 (x, h .0, (h .1, refl)),
+    )
+
+-- ---- lanes
+
+-- some lane is so, of the n lanes from lane i up
+abbrev pub SomeLane : (ℕ → Type 0) → ℕ → ℕ → Type 0
+SomeLane P i n = (j : ℕ) × (i ≤ j) × (j < i + n) × P j
+
+-- each of them is so
+abbrev pub EachLane : (ℕ → Type 0) → ℕ → ℕ → Type 0
+EachLane P i n = (j : ℕ) → i ≤ j → j < i + n → P j
+
+module _ {P : ℕ → Type 0} (i n : ℕ) where
+  some-lane-up : SomeLane P i (suc n) ↔ (P i ⊎ SomeLane P (suc i) n)
+  some-lane-up = (
+    λ s. ⊎-elim (λ e. inl (subst P (sym e) (s .3))) (λ l. inr (s .0, l, omega arith, s .3)) (eq-or-lt-of-le (s .1)),
+    ⊎-elim (λ p. (i, omega arith, omega arith, p)) (λ s. (s .0, omega arith, omega arith, s .3)),
+  )
+
+  each-lane-up : EachLane P i (suc n) ↔ (P i × EachLane P (suc i) n)
+  each-lane-up = (
+    λ h. (h i (omega arith) (omega arith), λ j a b. h j (omega arith) (omega arith)),
+    λ h j a b. ⊎-elim (λ e. subst P e (h .0)) (λ l. h .1 j l (omega arith)) (eq-or-lt-of-le a),
+  )
+
+module _ {f : ℕ → Bool} {P : ℕ → Type 0} where
+  pub lane-means : ((j : ℕ) → Means (f j) (P j)) → (i n : ℕ) → Means (someLane f i n) (SomeLane P i n)
+  lane-means m i zero = record { fact = never; test = λ s. absurd (omega arith) }
+  lane-means m i (suc n) = reworded (or-means (m i) (lane-means m (suc i) n)) (some-lane-up i n .1) (some-lane-up i n .0)
+
+  pub lane-fails : ((j : ℕ) → Fails (f j) (P j)) → (i n : ℕ) → Fails (someLane f i n) (EachLane P i n)
+  lane-fails m i zero = record { fact = λ e j a b. absurd (omega arith); test = λ h. refl }
+  lane-fails m i (suc n) = reworded (or-fails (m i) (lane-fails m (suc i) n)) (each-lane-up i n .1) (each-lane-up i n .0)
+
+-- the same with the test itself for the fact
+module _ (f : ℕ → Bool) (i n : ℕ) where
+  pub lane-some : someLane f i n ≡ true → SomeLane (λ j. f j ≡ true) i n
+  lane-some = lane-means (λ j. itself (f j)) i n .fact
+
+  pub some-lane : (j : ℕ) → i ≤ j → j < i + n → f j ≡ true → someLane f i n ≡ true
+  some-lane j a b p = lane-means (λ k. itself (f k)) i n .test (j, a, b, p)
+
+  pub lane-none : someLane f i n ≡ false → EachLane (λ j. f j ≡ false) i n
+  lane-none = lane-fails (λ j. itself (f j)) i n .fact
+
+  pub none-lane : EachLane (λ j. f j ≡ false) i n → someLane f i n ≡ false
+  none-lane = lane-fails (λ j. itself (f j)) i n .test
+
+-- ---- ascending lists
+
+module _ {A : Type 0} (number : A → ℕ) where
+  -- the elements' numbers ascend strictly, the first at least c
+  abbrev pub Ascends : ℕ → List A → Type 0
+  Ascends c [] = Unit {0}
+  Ascends c (x ∷ xs) = (c ≤ number x) × Ascends (suc (number x)) xs
+
+  -- a lower bound serves too
+  pub ascends-lower : (c d : ℕ) (xs : List A) → c ≤ d → Ascends d xs → Ascends c xs
+  ascends-lower c d [] h a = tt
+  ascends-lower c d (x ∷ xs) h a = (omega arith, a .1)
+
+  -- no element is below the bound
+  pub ascends-from : (c : ℕ) (xs : List A) → Ascends c xs → Each (λ x. c ≤ number x) xs
+  ascends-from c [] a = λ x i. absurd i
+  ascends-from c (x ∷ xs) a = each-cons x xs .1 (a .0, ascends-from c xs (ascends-lower c (suc (number x)) xs (omega arith) (a .1)))
+
+  -- no number stands twice
+  pub ascends-once : (c : ℕ) (xs : List A) → Ascends c xs → (x y : A) → In x xs → In y xs → number x ≡ number y → x ≡ y
+  ascends-once c [] a x y i j e = absurd i
+  ascends-once c (z ∷ zs) a x y (inl p) (inl q) e = p ∙ sym q
+  ascends-once c (z ∷ zs) a x y (inl p) (inr j) e = absurd (omega (arith, ap number p, ascends-from (suc (number z)) zs (a .1) y j))
+  ascends-once c (z ∷ zs) a x y (inr i) (inl q) e = absurd (omega (arith, ap number q, ascends-from (suc (number z)) zs (a .1) x i))
+  ascends-once c (z ∷ zs) a x y (inr i) (inr j) e = ascends-once (suc (number z)) zs (a .1) x y i j e
