@@ -8,9 +8,10 @@ use mathlib.Core.Bool.{true, false}
 use mathlib.Core.Logic.{_⊎_, inl, inr, ⊎-elim}
 use native.Mathlib.Omega.{arith}
 use native.Mathlib.Nat.{eq-or-lt-of-le}
+use lib.Dec.{eqb}
 use Rattle.rules.specs.Tests.{_and_, _or_}
 use Rattle.rules.specs.HallLine.{machines, sensors, readings, highestKey, keysPerMachine, house, inRanges, keyOf, firstKey, ownKey, Band, bandOf, pastLow, beforeHigh, holds, firstPast, holdsSome, withinScope}
-use Rattle.rules.proofs.Tests.{Means, passes-or-fails, itself, and-means, and3-means, or-means, lt-means, le-means, eq-means}
+use Rattle.rules.proofs.Tests.{Means, same-means, passes-or-fails, itself, and-means, and3-means, or-means, lt-means, le-means, eq-means}
 
 pub in-ranges-means : (m s r : ℕ) → Means (inRanges m s r) ((m < machines) × (s < sensors) × (r < readings))
 unfolding inRanges
@@ -66,6 +67,11 @@ some-machine k h = (k / keysPerMachine, omega arith, own-key-means (k / keysPerM
 -- .. and no other's
 pub one-machine : (m n k : ℕ) → ownKey m k ≡ true → ownKey n k ≡ true → m ≡ n
 one-machine m n k p q = let f = own-key-means m k .fact p in let g = own-key-means n k .fact q in omega arith
+
+-- whose key it is, by division
+pub own-by-division : (machine k : ℕ) → eqb (k / keysPerMachine) machine ≡ ownKey machine k
+own-by-division machine k =
+    same-means (eq-means (k / keysPerMachine) machine) (own-key-means machine k) (λ same. omega arith) (λ own. omega arith)
 
 -- the key is above the low end, or equal to a closed low end
 abbrev pub Past : Band → ℕ → Type 0

@@ -1,5 +1,7 @@
--- What the definitions mean. A file bears the name of the file of specs/ whose laws it holds.
+-- What the definitions mean. A file bears the name of the file of specs/ whose laws it holds;
+-- Connectives and Faults hold laws in the form that code asks for.
 pub mod Tests
+pub mod Connectives
 pub mod HallLine
 pub mod NodesLanesEdges
 pub mod Profile
@@ -7,5 +9,6 @@ pub mod Marks
 pub mod Flags
 pub mod Search
 pub mod BoxSaysNo
+pub mod Faults
 pub mod SoundMemory
 pub mod BenchTable
