@@ -6,16 +6,16 @@ use Prim.Native.Nat.{ℕ, zero, suc, _+_, _*_, _/_, _%_, _^_, _≤_, _<_}
 use native.Mathlib.Nat.{not-suc-le-zero, le-of-suc-le-suc, add-zero, zero-add, add-suc, suc-add, suc-mul, div-one, div-div-eq-div-mul, pow-succ'}
 use native.Mathlib.Omega.{arith}
 use mathlib.Core.Path.{_≡_, refl, sym, ap, ap₂, _∙_}
-use mathlib.Core.Logic.{_↔_}
+use mathlib.Core.Logic.{_↔_, Iff·trans}
 use mathlib.Core.Bool.{Bool, true, false, not}
 use mathlib.Core.List.{List, [], _∷_}
 use borrow.Author.Tests.{ltb-true, eqb-true, eqb-false, ne-eqb, not-true}
 use lib.Dec.{eqb, ltb}
-use lib.ListN.{length, getD}
+use lib.ListN.{length, getD, replicate}
 use lib.Count.{ones, ones-step}
 use Rattle.rules.specs.Tests.{_and_, _or_, oneIf, all, sumOf, member, distinct, countFrom}
 use Rattle.rules.specs.Flags.{flagsOf, flagAt, countOf, bitsFrom, wordsFrom}
-use Rattle.rules.proofs.Tests.{and-both}
+use Rattle.rules.proofs.Tests.{and-both, In, member-means}
 
 oneIf-below-two : (b : Bool) → oneIf b < 2
 oneIf-below-two true = omega arith
@@ -220,6 +220,9 @@ module _ (ns : List ℕ) where
   flag-set-for-member n h =
       ((λ e. oneIf-one-to-one (member n ns) true (sym (flag-of-member n h) ∙ e)), (λ e. flag-of-member n h ∙ ap oneIf e))
 
+  pub flag-set-where-in : (n : ℕ) → n < 1024 → (flagAt (flagsOf ns) n ≡ 1) ↔ In n ns
+  flag-set-where-in n h = Iff·trans (flag-set-for-member n h) ((member-means n ns) .fact, (member-means n ns) .test)
+
   pub ones-of-flags : sumOf ones (flagsOf ns) ≡ countOf ns
   unfolding flagsOf countOf
   ones-of-flags = ones-are-the-count (λ n. member n ns)
@@ -252,3 +255,12 @@ module _ (ms ns : List ℕ) where
   pub count-by-members : ((n : ℕ) → n < 1024 → member n ms ≡ member n ns) → countOf ms ≡ countOf ns
   unfolding countOf
   count-by-members agree = counts-agree (λ n. member n ms) (λ n. member n ns) 1024 agree 0 1024 (omega arith)
+
+-- of no number no flag is set
+pub flags-of-none : flagsOf [] ≡ replicate 16 0
+unfolding flagsOf
+flags-of-none = refl
+
+pub count-of-nothing : countOf [] ≡ 0
+unfolding countOf
+count-of-nothing = count-of-none (λ n. false) (λ n. refl) 0 1024

@@ -8,7 +8,11 @@ pub mod Profile
 pub mod Marks
 pub mod Flags
 pub mod Search
+pub mod Changes
+pub mod Readouts
 pub mod BoxSaysNo
 pub mod Faults
 pub mod SoundMemory
+pub mod BenchCard
+pub mod Reach
 pub mod BenchTable

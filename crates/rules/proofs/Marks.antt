@@ -2,15 +2,17 @@
 -- Assumes nothing.
 use Prim.Native.Nat.{ℕ, suc, _-_, _≤_, _<_}
 use mathlib.Core.Path.{_≡_, refl}
-use mathlib.Core.Bool.{Bool, true}
+use mathlib.Core.Bool.{Bool, true, false}
 use mathlib.Core.Logic.{_↔_}
-use mathlib.Core.List.{List}
+use mathlib.Core.List.{List, [], _∷_, map}
 use native.Mathlib.Omega.{arith}
+use lib.ListN.{length}
+use Rattle.rules.specs.Tests.{addIf, countIf}
 use Rattle.rules.specs.HallLine.{Band, holds}
 use Rattle.rules.specs.NodesLanesEdges.{Node, Edge, edgesOf, lanes}
 use Rattle.rules.specs.Profile.{Profile}
 use Rattle.rules.specs.Marks.{inside, contains, containedIn, edgeMarked, passesOver, passedIn, nodeMarked, numbersWhere, markedOnEdge, markedOnNode}
-use Rattle.rules.proofs.Tests.{Means, reworded, itself, denied, not-means, and-means, lt-means, le-means, In, Some, any-means, lane-fails, in-made}
+use Rattle.rules.proofs.Tests.{Means, reworded, itself, denied, not-means, and-means, lt-means, le-means, In, Some, any-means, Distinct, in-made, length-made, in-map, lane-fails}
 
 -- the edge lies inside the band
 abbrev pub Inside : Edge → Band → Type 0
@@ -74,6 +76,29 @@ module _ (ns : List Node) (b : Band) where
 pub in-numbers : {f : Band → Bool} {P : Band → Type 0} → ((b : Band) → Means (f b) (P b)) → (n : ℕ) (bs : List Band)
     → In n (numbersWhere f bs) ↔ Some (λ b. P b × (b .number ≡ n)) bs
 in-numbers {f} m n bs = in-made m (λ b. b .number) (numbersWhere f) refl (λ b bs. refl) n bs
+
+-- the numbers of all bands of a list
+abbrev pub numbersOf : List Band → List ℕ
+numbersOf bs = map (λ b. b .number) bs
+
+-- the numbers of the bands that pass ..
+module _ (f : Band → Bool) where
+  -- .. are as many as those bands ..
+  pub length-of-numbers : (bs : List Band) → length (numbersWhere f bs) ≡ countIf f bs
+  length-of-numbers bs = length-made (λ b. itself (f b)) (λ b. b .number) (numbersWhere f) refl (λ b bs. refl) bs
+
+  -- .. and none stands twice where none does among all
+  pub numbers-stay-apart : (bs : List Band) → Distinct (numbersOf bs) → Distinct (numbersWhere f bs)
+  numbers-stay-apart [] d = tt
+  numbers-stay-apart (b ∷ bs) d = go (f b) (numbers-stay-apart bs (d .1))
+    where
+      go : (t : Bool) → Distinct (numbersWhere f bs) → Distinct (addIf t (b .number) (numbersWhere f bs))
+      go true e = (
+        λ i. let s = in-numbers (λ c. itself (f c)) (b .number) bs .0 i in
+            d .0 (in-map (λ c. c .number) (b .number) bs .1 (s .0, s .1, s .2 .1)),
+        e,
+      )
+      go false e = e
 
 module _ (p : Profile) where
   pub in-marked-on-edge :

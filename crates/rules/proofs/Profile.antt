@@ -2,14 +2,13 @@
 -- Assumes nothing.
 use Prim.Native.Nat.{ℕ}
 use mathlib.Core.Path.{_≡_, refl, _∙_, ap}
-use mathlib.Core.Logic.{_↔_, inl}
-use mathlib.Core.List.{List, [], _∷_}
+use mathlib.Core.Logic.{_↔_}
+use mathlib.Core.List.{List}
 use mathlib.Core.Option.{Option, none, some}
-use native.Mathlib.Omega.{arith}
-use Rattle.rules.specs.Tests.{keep, firstOf}
+use Rattle.rules.specs.Tests.{keep}
 use Rattle.rules.specs.HallLine.{Band}
 use Rattle.rules.specs.Profile.{hasNumber, isLive, bandNumbered}
-use Rattle.rules.proofs.Tests.{Means, eq-means, In, Some, Each, any-means, in-keep, Ascends, ascends-once}
+use Rattle.rules.proofs.Tests.{Means, eq-means, In, Some, Each, any-means, in-keep, first-in, first-none, Ascends, ascends-once}
 
 pub has-number-means : (n : ℕ) (b : Band) → Means (hasNumber n b) (b .number ≡ n)
 unfolding hasNumber
@@ -18,20 +17,6 @@ has-number-means n b = eq-means (b .number) n
 pub is-live-means : (n : ℕ) (bs : List Band) → Means (isLive n bs) (Some (λ b. b .number ≡ n) bs)
 unfolding isLive
 is-live-means n bs = any-means (has-number-means n) bs
-
--- the first element of a list stands in it ..
-first-in : {A : Type 0} (x : A) (xs : List A) → firstOf xs ≡ some x → In x xs
-first-in x [] e = let z : _≡_ {A = ℕ} 0 1 = cc in absurd (omega arith)
-first-in x (y ∷ ys) e = inl (cc)
-
--- .. and only a list with no element has none
-first-none : {A : Type 0} (xs : List A) → firstOf xs ≡ none → Each (λ x. ⊥) xs
-first-none [] e x i = i
-first-none (y ∷ ys) e x i = let z : _≡_ {A = ℕ} 0 1 = cc in omega arith
-
-none-first : {A : Type 0} (xs : List A) → Each (λ x. ⊥) xs → firstOf xs ≡ none
-none-first [] h = refl
-none-first (y ∷ ys) h = absurd (h y (inl refl))
 
 -- band numbers ascend strictly, the first at least c
 abbrev pub NumbersAsc : ℕ → List Band → Type 0
@@ -46,8 +31,8 @@ module _ (n : ℕ) (bs : List Band) where
   pub numbered-none : (bandNumbered n bs ≡ none) ↔ Each (λ b. b .number ≡ n → ⊥) bs
   unfolding bandNumbered
   numbered-none = (
-    λ e b i q. first-none (keep (hasNumber n) bs) e b (in-keep (hasNumber n) b bs .1 (i, has-number-means n b .test q)),
-    λ h. none-first (keep (hasNumber n) bs) (λ b i. let k = in-keep (hasNumber n) b bs .0 i in h b (k .0) (has-number-means n b .fact (k .1))),
+    λ e b i q. first-none (keep (hasNumber n) bs) .0 e b (in-keep (hasNumber n) b bs .1 (i, has-number-means n b .test q)),
+    λ h. first-none (keep (hasNumber n) bs) .1 (λ b i. let k = in-keep (hasNumber n) b bs .0 i in h b (k .0) (has-number-means n b .fact (k .1))),
   )
 
 -- where numbers ascend a live band is the one that its number names

@@ -3,14 +3,16 @@
 -- Assumes nothing.
 use Prim.Native.Nat.{ℕ, zero, suc, _+_, _≤_, _<_}
 use mathlib.Core.Path.{_≡_, refl, sym, _∙_, ap, subst, subst⁻¹}
-use mathlib.Core.Bool.{Bool, true, false, not, false≢true}
+use mathlib.Core.Bool.{Bool, true, false, not, false≢true, cond}
 use mathlib.Core.Logic.{_↔_, _⊎_, inl, inr, ⊎-elim, ⊎-map}
-use mathlib.Core.List.{List, [], _∷_}
+use mathlib.Core.List.{List, [], _∷_, _++_, map}
+use mathlib.Core.Option.{none, some}
 use native.Mathlib.Omega.{arith}
 use native.Mathlib.Nat.{eq-or-lt-of-le}
 use lib.Dec.{leb, ltb, eqb}
+use lib.ListN.{length}
 use borrow.Author.Tests.{ltb-true, ltb-false, leb-true, leb-false, eqb-true, not-true, not-false, lt-ltb, le-ltb, le-leb, lt-leb, eq-eqb}
-use Rattle.rules.specs.Tests.{_and_, _or_, addIf, any, all, keep, member, distinct, someLane}
+use Rattle.rules.specs.Tests.{_and_, _or_, oneIf, addIf, any, all, keep, firstOf, countIf, member, distinct, someLane}
 
 -- ---- one test, two tests
 
@@ -149,13 +151,17 @@ module _ {a b : Bool} {X Y : Type 0} where
 pub and3-means : {a b c : Bool} {X Y Z : Type 0} → Means a X → Means b Y → Means c Z → Means (a and b and c) (X × Y × Z)
 and3-means p q r = reworded (and-means p (and-means q r)) (λ h. (h .0, h .1 .0, h .1 .1)) (λ h. (h .0, (h .1, h .2)))
 
+-- where the first passes the second fails
+pub then-fails : {a b : Bool} {X Y : Type 0} → Means a X → Fails b Y → Fails (a and b) (X → Y)
+then-fails {a} {b} p q =
+    record {
+      fact = λ h x. ⊎-elim (λ e. never (sym e ∙ p .test x)) (q .fact) (and-false a b h);
+      test = λ f. ⊎-elim (λ e. false-and a b (inr (q .test (f (p .fact e))))) (λ e. false-and a b (inl e)) (passes-or-fails a);
+    }
+
 -- the first does not pass without the second
 pub implies-fails : {a b : Bool} {X Y : Type 0} → Means a X → Means b Y → Fails (a and not b) (X → Y)
-implies-fails {a} {b} p q =
-    record {
-      fact = λ h x. ⊎-elim (λ e. never (sym e ∙ p .test x)) (λ e. q .fact (not-false b e)) (and-false a (not b) h);
-      test = λ f. denied (and-means p (not-means (denied q))) .test (λ h. h .1 (f (h .0)));
-    }
+implies-fails p q = then-fails p (not-fails q)
 
 module _ (x y : ℕ) where
   pub lt-means : Means (ltb x y) (x < y)
@@ -172,6 +178,9 @@ module _ (x y : ℕ) where
 
   pub eq-means : Means (eqb x y) (x ≡ y)
   eq-means = record { fact = eqb-true x y; test = eq-eqb x y }
+
+  pub at-most-or-above : (x ≤ y) ⊎ (y < x)
+  at-most-or-above = ⊎-map (leb-true x y) (leb-false x y) (passes-or-fails (leb x y))
 
 -- ---- lists
 
@@ -241,8 +250,12 @@ module _ {A : Type 0} (f : A → Bool) (xs : List A) where
   pub each-all : Each (λ x. f x ≡ true) xs → all f xs ≡ true
   each-all = all-means (λ x. itself (f x)) xs .test
 
+-- a test for being x finds x where it stands
+pub find-means : {A : Type 0} {f : A → Bool} {x : A} → ((y : A) → Means (f y) (y ≡ x)) → (xs : List A) → Means (any f xs) (In x xs)
+find-means {x} m xs = reworded (any-means m xs) (λ s. subst (λ y. In y xs) (s .2) (s .1)) (λ i. (x, i, refl))
+
 pub member-means : (n : ℕ) (xs : List ℕ) → Means (member n xs) (In n xs)
-member-means n xs = reworded (any-means (eq-means n) xs) (λ s. subst (λ x. In x xs) (sym (s .2)) (s .1)) (λ i. (n, i, refl))
+member-means n xs = find-means (λ x. reworded (eq-means n x) sym sym) xs
 
 -- no number stands twice
 abbrev pub Distinct : List ℕ → Type 0
@@ -267,12 +280,67 @@ module _ {A B : Type 0} {f : A → Bool} {P : A → Type 0} (m : (x : A) → Mea
     λ s. subst⁻¹ (In y) (more x xs) (in-addIf (f x) _ _ _ .1 (⊎-map (λ q. (m x .test (q .0), sym (q .1))) (in-made y xs .1) (some-cons x xs .0 s))),
   )
 
-pub in-keep : {A : Type 0} (f : A → Bool) (x : A) (xs : List A) → In x (keep f xs) ↔ (In x xs × (f x ≡ true))
-in-keep f x xs =
-    let e = in-made (λ y. itself (f y)) (λ y. y) (keep f) refl (λ y ys. refl) x xs in (
-      λ i. let s = e .0 i in (subst (λ z. In z xs) (s .2 .1) (s .1), subst (λ z. f z ≡ true) (s .2 .1) (s .2 .0)),
+  -- .. and how many
+  pub length-made : (xs : List A) → length (made xs) ≡ countIf f xs
+  length-made [] = rw none
+  length-made (x ∷ xs) = rw (more x xs) (go (f x) (length-made xs))
+    where
+      go : (t : Bool) → length (made xs) ≡ countIf f xs → length (addIf t (taken x) (made xs)) ≡ oneIf t + countIf f xs
+      go true e = omega arith
+      go false e = omega arith
+
+-- who is kept
+pub in-kept : {A : Type 0} {f : A → Bool} {P : A → Type 0} → ((x : A) → Means (f x) (P x)) → (x : A) (xs : List A)
+    → In x (keep f xs) ↔ (In x xs × P x)
+in-kept {f} {P} m x xs =
+    let e = in-made m (λ y. y) (keep f) refl (λ y ys. refl) x xs in (
+      λ i. let s = e .0 i in (subst (λ z. In z xs) (s .2 .1) (s .1), subst P (s .2 .1) (s .2 .0)),
       λ h. e .1 (x, h .0, (h .1, refl)),
     )
+
+pub in-keep : {A : Type 0} (f : A → Bool) (x : A) (xs : List A) → In x (keep f xs) ↔ (In x xs × (f x ≡ true))
+in-keep f x xs = in-kept (λ y. itself (f y)) x xs
+
+-- some element is so, or none is
+pub some-or-none : {A : Type 0} {f : A → Bool} {P : A → Type 0} → ((x : A) → Means (f x) (P x)) → (xs : List A)
+    → Some P xs ⊎ Each (λ x. P x → ⊥) xs
+some-or-none {f} m xs = ⊎-map (any-means m xs .fact) (any-fails (λ x. denied (m x)) xs .fact) (passes-or-fails (any f xs))
+
+pub in-append : {A : Type 0} (x : A) (xs ys : List A) → In x (xs ++ ys) ↔ (In x xs ⊎ In x ys)
+in-append x [] ys = (inr, ⊎-elim absurd (λ j. j))
+in-append x (y ∷ xs) ys =
+    let e = in-append x xs ys in (
+      ⊎-elim (λ p. inl (inl p)) (λ i. ⊎-map inr (λ j. j) (e .0 i)),
+      ⊎-elim (⊎-map (λ p. p) (λ i. e .1 (inl i))) (λ j. inr (e .1 (inr j))),
+    )
+
+-- who stands in a list with x put somewhere in it, one place further on
+in-later : {A : Type 0} (x y z : A) (ws zs : List A) → In y ws ↔ ((y ≡ x) ⊎ In y zs) → In y (z ∷ ws) ↔ ((y ≡ x) ⊎ In y (z ∷ zs))
+in-later x y z ws zs e = (
+  ⊎-elim (λ p. inr (inl p)) (λ i. ⊎-map (λ p. p) inr (e .0 i)),
+  ⊎-elim (λ p. inr (e .1 (inl p))) (⊎-map (λ p. p) (λ i. e .1 (inr i))),
+)
+
+pub in-middle : {A : Type 0} (x y : A) (xs ys : List A) → In y (xs ++ x ∷ ys) ↔ ((y ≡ x) ⊎ In y (xs ++ ys))
+in-middle x y [] ys = (λ i. i, λ i. i)
+in-middle x y (z ∷ xs) ys = in-later x y z (xs ++ x ∷ ys) (xs ++ ys) (in-middle x y xs ys)
+
+pub in-map : {A B : Type 0} (f : A → B) (y : B) (xs : List A) → In y (map f xs) ↔ Some (λ x. f x ≡ y) xs
+in-map f y [] = (λ i. absurd i, λ s. s .1)
+in-map f y (x ∷ xs) = (
+  λ i. some-cons x xs .1 (⊎-map sym (in-map f y xs .0) i),
+  λ s. ⊎-map sym (in-map f y xs .1) (some-cons x xs .0 s),
+)
+
+-- the first element of a list stands in it ..
+pub first-in : {A : Type 0} (x : A) (xs : List A) → firstOf xs ≡ some x → In x xs
+first-in x [] e = let z : _≡_ {A = ℕ} 0 1 = cc in absurd (omega arith)
+first-in x (y ∷ ys) e = inl (cc)
+
+-- .. and only a list with no element has none
+pub first-none : {A : Type 0} (xs : List A) → (firstOf xs ≡ none) ↔ Each (λ x. ⊥) xs
+first-none [] = (λ e x i. i, λ h. refl)
+first-none (y ∷ ys) = (λ e x i. let z : _≡_ {A = ℕ} 0 1 = cc in omega arith, λ h. absurd (h y (inl refl)))
 
 -- ---- lanes
 
@@ -345,3 +413,51 @@ module _ {A : Type 0} (number : A → ℕ) where
   ascends-once c (z ∷ zs) a x y (inl p) (inr j) e = absurd (omega (arith, ap number p, ascends-from (suc (number z)) zs (a .1) y j))
   ascends-once c (z ∷ zs) a x y (inr i) (inl q) e = absurd (omega (arith, ap number q, ascends-from (suc (number z)) zs (a .1) x i))
   ascends-once c (z ∷ zs) a x y (inr i) (inr j) e = ascends-once (suc (number z)) zs (a .1) x y i j e
+
+  pub ascends-keep : (f : A → Bool) (c : ℕ) (xs : List A) → Ascends c xs → Ascends c (keep f xs)
+  ascends-keep f c [] a = tt
+  ascends-keep f c (x ∷ xs) a = go (f x) (ascends-keep f (suc (number x)) xs (a .1))
+    where
+      go : (t : Bool) → Ascends (suc (number x)) (keep f xs) → Ascends c (addIf t x (keep f xs))
+      go true b = (a .0, b)
+      go false b = ascends-lower c (suc (number x)) (keep f xs) (omega arith) b
+
+  -- the first element of an ascending list is its least
+  pub first-least : (c : ℕ) (xs : List A) → Ascends c xs → (y : A)
+      → (firstOf xs ≡ some y) ↔ (In y xs × Each (λ x. number y ≤ number x) xs)
+  first-least c [] a y = (λ e. absurd (first-in y [] e), λ h. absurd (h .0))
+  first-least c (x ∷ xs) a y = (
+    λ e. let p : y ≡ x = cc in
+        (inl p, each-cons x xs .1 (omega (arith, ap number p), λ z i. omega (arith, ap number p, ascends-from (suc (number x)) xs (a .1) z i))),
+    λ h. ⊎-elim
+        (λ p. ap some (sym p))
+        (λ i. absurd (omega (arith, ascends-from (suc (number x)) xs (a .1) y i, h .1 x (inl refl))))
+        (h .0),
+  )
+
+  -- x placed among the others in the order of their numbers, before the first that is above it
+  abbrev pub placed : A → List A → List A
+  placed x [] = x ∷ []
+  placed x (y ∷ ys) = cond (ltb (number x) (number y)) (x ∷ y ∷ ys) (y ∷ placed x ys)
+
+  pub in-placed : (x y : A) (xs : List A) → In y (placed x xs) ↔ ((y ≡ x) ⊎ In y xs)
+  in-placed x y [] = (λ i. i, λ i. i)
+  in-placed x y (z ∷ zs) = go (ltb (number x) (number z)) (in-placed x y zs)
+    where
+      go : (t : Bool) → In y (placed x zs) ↔ ((y ≡ x) ⊎ In y zs)
+          → In y (cond t (x ∷ z ∷ zs) (z ∷ placed x zs)) ↔ ((y ≡ x) ⊎ In y (z ∷ zs))
+      go true e = (λ i. i, λ i. i)
+      go false e = in-later x y z (placed x zs) zs e
+
+  -- a new number placed keeps the list ascending
+  pub placed-ascends : (x : A) (c : ℕ) (xs : List A) → c ≤ number x → Each (λ y. number y ≡ number x → ⊥) xs → Ascends c xs
+      → Ascends c (placed x xs)
+  placed-ascends x c [] l h a = (l, tt)
+  placed-ascends x c (y ∷ ys) l h a = go (ltb (number x) (number y)) refl (placed-ascends x (suc (number y)) ys)
+    where
+      go : (t : Bool) → ltb (number x) (number y) ≡ t
+          → (suc (number y) ≤ number x → Each (λ z. number z ≡ number x → ⊥) ys → Ascends (suc (number y)) ys
+          → Ascends (suc (number y)) (placed x ys))
+          → Ascends c (cond t (x ∷ y ∷ ys) (y ∷ placed x ys))
+      go true e ih = (l, (ltb-true (number x) (number y) e, a .1))
+      go false e ih = let off = h y (inl refl) in (a .0, ih (omega (arith, ltb-false (number x) (number y) e)) (λ z i. h z (inr i)) (a .1))

@@ -1,0 +1,238 @@
+-- "What one call can reach": which nodes are made, dropped or present throughout, how far a stretch runs, what lies in one, and which marks
+-- stand, to and from membership and arithmetic; so that the Bool rule says what the paper says with its quantifiers.
+-- Assumes nothing.
+use Prim.Native.Nat.{ℕ, max, min, _≤_, _<_}
+use mathlib.Core.Path.{_≡_, refl, sym, _∙_, ap, subst}
+use mathlib.Core.Bool.{Bool, true, false, not, cond}
+use mathlib.Core.Logic.{_↔_, Iff·trans, _⊎_, inl, inr, ⊎-elim, ⊎-map}
+use mathlib.Core.List.{List, [], _∷_}
+use native.Mathlib.Omega.{arith}
+use lib.Dec.{eqb}
+use Rattle.rules.specs.Tests.{_and_, keep}
+use Rattle.rules.specs.HallLine.{Band, highestKey}
+use Rattle.rules.specs.NodesLanesEdges.{Node, nodeOf, Edge, edgeOf, edgesOf, lanes}
+use Rattle.rules.specs.Profile.{Profile}
+use Rattle.rules.specs.Marks.{edgeMarked, nodeMarked}
+use Rattle.rules.specs.Reach.{present, presentBoth, madeOrDropped, Stretch, nearestBefore, nearestAfter, stretchOf, liesIn, strictlyInside, edgeReached, keyReached, edgeMarkStands, nodeMarkStands, losesInLane, losesOnNode, keepsMarks, reachesOnlyStretches}
+use Rattle.rules.proofs.Tests.{Means, Fails, reworded, itself, denied, not-means, and-means, or-means, then-fails, implies-fails, lt-means, le-means, eq-means, at-most-or-above, In, Some, Each, each-cons, any-means, any-fails, all-means, find-means, in-kept, some-or-none, in-append, lane-fails}
+use Rattle.rules.proofs.NodesLanesEdges.{NodeAt, stands-at-means}
+use Rattle.rules.proofs.Profile.{has-number-means}
+
+-- ---- nodes made, dropped and present throughout
+
+pub present-means : (ns : List Node) (n : Node) → Means (present ns n) (In n ns)
+unfolding present
+present-means ns n =
+    find-means
+    (λ m. reworded
+    (and-means (eq-means (m .key) (n .key)) (eq-means (m .level) (n .level)))
+    (λ h i. nodeOf (h .0 i) (h .1 i))
+    (λ e. (ap (λ t. t .key) e, ap (λ t. t .level) e)))
+    ns
+
+module _ (before after : List Node) (n : Node) where
+  pub in-present-both : In n (presentBoth before after) ↔ (In n before × In n after)
+  unfolding presentBoth
+  in-present-both = in-kept (present-means after) n before
+
+  pub in-made-or-dropped : In n (madeOrDropped before after) ↔ ((In n after × (In n before → ⊥)) ⊎ (In n before × (In n after → ⊥)))
+  unfolding madeOrDropped
+  in-made-or-dropped =
+      let made = in-kept (λ m. not-means (denied (present-means before m))) n after in
+      let dropped = in-kept (λ m. not-means (denied (present-means after m))) n before in
+      Iff·trans
+      (in-append n (keep (λ m. not (present before m)) after) (keep (λ m. not (present after m)) before))
+      (⊎-map (made .0) (dropped .0), ⊎-map (made .1) (dropped .1))
+
+-- ---- how far a stretch runs
+
+-- x is the end of the line where no node is so; else the key of such a node, and no such node is nearer
+abbrev pub Nearest : (Node → Type 0) → (ℕ → ℕ → Type 0) → ℕ → List Node → ℕ → Type 0
+Nearest P NoNearer end ns x =
+    (Each (λ n. P n → ⊥) ns × (x ≡ end)) ⊎ (Some (λ n. P n × (n .key ≡ x)) ns × Each (λ n. P n → NoNearer (n .key) x) ns)
+
+-- one law for both directions: of two keys `pick` takes the nearer
+module _ {f : Node → Bool} {P : Node → Type 0} (m : (n : Node) → Means (f n) (P n))
+    (NoNearer : ℕ → ℕ → Type 0) (pick : ℕ → ℕ → ℕ)
+    (first : (x y : ℕ) → NoNearer x (pick x y)) (second : (x y z : ℕ) → NoNearer x z → NoNearer x (pick y z))
+    (one : (x y : ℕ) → (pick x y ≡ x) ⊎ (pick x y ≡ y))
+    (end : ℕ) (nearest : List Node → ℕ) (none : nearest [] ≡ end)
+    (more : (n : Node) (ns : List Node) → nearest (n ∷ ns) ≡ pick (cond (f n) (n .key) end) (nearest ns)) where
+  none-nearer : (ns : List Node) → Each (λ n. P n → NoNearer (n .key) (nearest ns)) ns
+  none-nearer [] = λ n i. absurd i
+  none-nearer (n ∷ ns) =
+      rw (more n ns)
+      (each-cons n ns .1 (
+        λ p. rw (m n .test p) (first (n .key) (nearest ns)),
+        λ t i p. second (t .key) (cond (f n) (n .key) end) (nearest ns) (none-nearer ns t i p),
+      ))
+
+  end-or-key : (ns : List Node) → (nearest ns ≡ end) ⊎ Some (λ n. P n × (n .key ≡ nearest ns)) ns
+  end-or-key [] = inl none
+  end-or-key (n ∷ ns) =
+      ⊎-elim
+      (λ e. here (f n) refl (more n ns ∙ e))
+      (λ e. later (more n ns ∙ e) (end-or-key ns))
+      (one (cond (f n) (n .key) end) (nearest ns))
+    where
+      here : (t : Bool) → f n ≡ t → nearest (n ∷ ns) ≡ cond t (n .key) end
+          → (nearest (n ∷ ns) ≡ end) ⊎ Some (λ t. P t × (t .key ≡ nearest (n ∷ ns))) (n ∷ ns)
+      here true q e = inr (n, inl refl, (m n .fact q, sym e))
+      here false q e = inl e
+
+      later : nearest (n ∷ ns) ≡ nearest ns → (nearest ns ≡ end) ⊎ Some (λ t. P t × (t .key ≡ nearest ns)) ns
+          → (nearest (n ∷ ns) ≡ end) ⊎ Some (λ t. P t × (t .key ≡ nearest (n ∷ ns))) (n ∷ ns)
+      later e = ⊎-map (λ z. e ∙ z) (λ s. (s .0, inr (s .1), (s .2 .0, s .2 .1 ∙ sym e)))
+
+  -- for nodes on the line: one that is no nearer than its end stands at the end
+  nearest-is : (ns : List Node) → Each (λ n. NoNearer (n .key) end → n .key ≡ end) ns → Nearest P NoNearer end ns (nearest ns)
+  nearest-is ns far = ⊎-elim (λ s. inr (found s, none-nearer ns)) (λ h. inl (h, not-found h)) (some-or-none m ns)
+    where
+      found : Some P ns → Some (λ n. P n × (n .key ≡ nearest ns)) ns
+      found s =
+          ⊎-elim
+          (λ z. (s .0, s .1, (s .2, far (s .0) (s .1) (subst (NoNearer (s .0 .key)) z (none-nearer ns (s .0) (s .1) (s .2))) ∙ sym z)))
+          (λ t. t)
+          (end-or-key ns)
+
+      not-found : Each (λ n. P n → ⊥) ns → nearest ns ≡ end
+      not-found h = ⊎-elim (λ z. z) (λ s. absurd (h (s .0) (s .1) (s .2 .0))) (end-or-key ns)
+
+-- a node of level h or more, before k or after it
+abbrev pub TallBefore : ℕ → ℕ → Node → Type 0
+TallBefore h k n = (h ≤ n .level) × (n .key < k)
+
+abbrev pub TallAfter : ℕ → ℕ → Node → Type 0
+TallAfter h k n = (h ≤ n .level) × (k < n .key)
+
+pub nearest-before : (h k : ℕ) (ns : List Node) → Nearest (TallBefore h k) (λ x y. x ≤ y) 0 ns (nearestBefore h k ns)
+nearest-before h k ns =
+    nearest-is (λ n. and-means (le-means h (n .level)) (lt-means (n .key) k))
+    (λ x y. x ≤ y) max (λ x y. omega arith) (λ x y z l. omega arith)
+    (λ x y. ⊎-elim (λ l. inr (omega arith)) (λ l. inl (omega arith)) (at-most-or-above x y))
+    0 (nearestBefore h k) refl (λ n ns. refl) ns (λ n i l. omega arith)
+
+pub nearest-after : (h k : ℕ) (ns : List Node) → Each (λ n. n .key ≤ highestKey) ns
+    → Nearest (TallAfter h k) (λ x y. y ≤ x) highestKey ns (nearestAfter h k ns)
+nearest-after h k ns on-line =
+    nearest-is (λ n. and-means (le-means h (n .level)) (lt-means k (n .key)))
+    (λ x y. y ≤ x) min (λ x y. omega arith) (λ x y z l. omega arith)
+    (λ x y. ⊎-elim (λ l. inl (omega arith)) (λ l. inr (omega arith)) (at-most-or-above x y))
+    highestKey (nearestAfter h k) refl (λ n ns. refl) ns (λ n i l. omega (arith, on-line n i))
+
+-- the stretch of a node runs from the one to the other
+pub stretch-runs : (both : List Node) → Each (λ m. m .key ≤ highestKey) both → (n : Node)
+    → Nearest (TallBefore (n .level) (n .key)) (λ x y. x ≤ y) 0 both (stretchOf both n .from)
+    × Nearest (TallAfter (n .level) (n .key)) (λ x y. y ≤ x) highestKey both (stretchOf both n .to)
+unfolding stretchOf
+stretch-runs both on-line n = (nearest-before (n .level) (n .key) both, nearest-after (n .level) (n .key) both on-line)
+
+-- ---- what lies in a stretch
+
+-- the edge lies in the stretch
+abbrev pub LiesIn : Edge → Stretch → Type 0
+LiesIn e s = (s .from ≤ e .from) × (e .to ≤ s .to)
+
+pub lies-in-means : (e : Edge) (s : Stretch) → Means (liesIn e s) (LiesIn e s)
+unfolding liesIn
+lies-in-means e s = and-means (le-means (s .from) (e .from)) (le-means (e .to) (s .to))
+
+-- the key is strictly inside the stretch
+abbrev pub StrictlyInside : ℕ → Stretch → Type 0
+StrictlyInside k s = (s .from < k) × (k < s .to)
+
+pub strictly-inside-means : (k : ℕ) (s : Stretch) → Means (strictlyInside k s) (StrictlyInside k s)
+unfolding strictlyInside
+strictly-inside-means k s = and-means (lt-means (s .from) k) (lt-means k (s .to))
+
+module _ (both changed : List Node) where
+  pub edge-reached-means : (e : Edge) → Means (edgeReached both changed e) (Some (λ n. LiesIn e (stretchOf both n)) changed)
+  unfolding edgeReached
+  edge-reached-means e = any-means (λ n. lies-in-means e (stretchOf both n)) changed
+
+  pub key-reached-means : (k : ℕ) → Means (keyReached both changed k) (Some (λ n. StrictlyInside k (stretchOf both n)) changed)
+  unfolding keyReached
+  key-reached-means k = any-means (λ n. strictly-inside-means k (stretchOf both n)) changed
+
+-- ---- which marks stand
+
+module _ (ns : List Node) (b : Band) where
+  pub edge-mark-stands-means : (i : ℕ) (e : Edge) → Means (edgeMarkStands ns b i e) (In e (edgesOf i ns) × (edgeMarked ns b i e ≡ true))
+  unfolding edgeMarkStands
+  edge-mark-stands-means i e = and-means (find-means same (edgesOf i ns)) (itself (edgeMarked ns b i e))
+    where
+      same : (f : Edge) → Means (eqb (f .from) (e .from) and eqb (f .to) (e .to)) (f ≡ e)
+      same f =
+          reworded
+          (and-means (eq-means (f .from) (e .from)) (eq-means (f .to) (e .to)))
+          (λ h j. edgeOf (h .0 j) (h .1 j))
+          (λ q. (ap (λ g. g .from) q, ap (λ g. g .to) q))
+
+  pub node-mark-stands-means : (k : ℕ) → Means (nodeMarkStands ns b k) (NodeAt k ns × (nodeMarked ns b k ≡ true))
+  unfolding nodeMarkStands
+  node-mark-stands-means k = and-means (stands-at-means k ns) (itself (nodeMarked ns b k))
+
+-- ---- what is kept
+
+module _ (both changed before after : List Node) (b : Band) where
+  -- each mark of the band on an edge of lane i that is not reached stands after the call too
+  abbrev pub KeepsInLane : ℕ → Type 0
+  KeepsInLane i =
+      Each
+      (λ e. (Some (λ n. LiesIn e (stretchOf both n)) changed → ⊥)
+      → edgeMarked before b i e ≡ true
+      → In e (edgesOf i after) × (edgeMarked after b i e ≡ true))
+      (edgesOf i before)
+
+  -- and so does each mark on a node that is not reached
+  abbrev pub KeepsOnNodes : Type 0
+  KeepsOnNodes =
+      Each
+      (λ n. (Some (λ m. StrictlyInside (n .key) (stretchOf both m)) changed → ⊥)
+      → nodeMarked before b (n .key) ≡ true
+      → NodeAt (n .key) after × (nodeMarked after b (n .key) ≡ true))
+      before
+
+  pub loses-in-lane-fails : (i : ℕ) → Fails (losesInLane both changed before after b i) (KeepsInLane i)
+  unfolding losesInLane
+  loses-in-lane-fails i =
+      any-fails
+      (λ e. then-fails (not-means (denied (edge-reached-means both changed e)))
+      (implies-fails (itself (edgeMarked before b i e)) (edge-mark-stands-means after b i e)))
+      (edgesOf i before)
+
+  pub loses-on-node-fails : Fails (losesOnNode both changed before after b) KeepsOnNodes
+  unfolding losesOnNode
+  loses-on-node-fails =
+      any-fails
+      (λ n. then-fails (not-means (denied (key-reached-means both changed (n .key))))
+      (implies-fails (itself (nodeMarked before b (n .key))) (node-mark-stands-means after b (n .key))))
+      before
+
+  -- all such marks, in every lane and on every node
+  abbrev pub KeepsMarks : Type 0
+  KeepsMarks = ((i : ℕ) → i < lanes → KeepsInLane i) × KeepsOnNodes
+
+  pub keeps-marks-means : Means (keepsMarks both changed before after b) KeepsMarks
+  unfolding keepsMarks
+  keeps-marks-means =
+      reworded
+      (and-means (not-means (lane-fails loses-in-lane-fails 0 lanes)) (not-means loses-on-node-fails))
+      (λ h. (λ i l. h .0 i (omega arith) (omega arith), h .1))
+      (λ h. (λ i l u. h .0 i (omega arith), h .1))
+
+-- between two node lists the band keeps all such marks, and gains none
+abbrev pub SameOutside : List Node → List Node → Band → Type 0
+SameOutside ms ns b =
+    KeepsMarks (presentBoth ms ns) (madeOrDropped ms ns) ms ns b × KeepsMarks (presentBoth ms ns) (madeOrDropped ms ns) ns ms b
+
+pub reaches-only-stretches-means : (number : ℕ) (p q : Profile)
+    → Means (reachesOnlyStretches number p q) (Each (λ b. (b .number ≡ number) ⊎ SameOutside (p .nodes) (q .nodes) b) (p .bands))
+unfolding reachesOnlyStretches
+reaches-only-stretches-means number p q =
+    let both : List Node = presentBoth (p .nodes) (q .nodes) in
+    let changed : List Node = madeOrDropped (p .nodes) (q .nodes) in
+    all-means
+    (λ b. or-means (has-number-means number b)
+    (and-means (keeps-marks-means both changed (p .nodes) (q .nodes) b) (keeps-marks-means both changed (q .nodes) (p .nodes) b)))
+    (p .bands)
