@@ -1,17 +1,18 @@
 -- "Nodes, lanes, edges": levels, where nodes stand, whose ends they are and who takes part in a lane, to and from membership and arithmetic;
--- of nodes in key order, that an edge joins two that are next to each other, and that the level at a key is the level of the node there.
+-- of nodes in key order, that an edge joins two that are next to each other, and that the level at a key is the level of the node there;
+-- what making a node at a key leaves, and that a level stays.
 -- Assumes nothing.
 use Prim.Native.Nat.{ℕ, suc, _≤_, _<_}
-use mathlib.Core.Path.{_≡_, refl, sym, ap, subst}
+use mathlib.Core.Path.{_≡_, refl, sym, ap, subst, _∙_}
 use mathlib.Core.Bool.{Bool, true, false}
-use mathlib.Core.Logic.{_↔_, _⊎_, inl, inr, ⊎-elim, ⊎-map}
+use mathlib.Core.Logic.{_↔_, Iff·trans, _⊎_, inl, inr, ⊎-elim, ⊎-map}
 use mathlib.Core.List.{List, [], _∷_}
 use native.Mathlib.Omega.{arith}
 use borrow.Author.Tests.{eq-eqb, ne-eqb}
-use Rattle.rules.specs.Tests.{addIf}
+use Rattle.rules.specs.Tests.{addIf, placed}
 use Rattle.rules.specs.HallLine.{Band}
-use Rattle.rules.specs.NodesLanesEdges.{Node, Edge, edgeOf, lanes, isLevel, takesPart, laneOf, edgesFrom, neighbours, edgesOf, levelAt, standsAt, isEnd, isEndOfSome, endsStand, onlyEndsStand}
-use Rattle.rules.proofs.Tests.{Means, and-means, or-means, lt-means, le-means, eq-means, In, Some, Each, each-cons, any-means, all-means, in-made, Ascends, ascends-lower, ascends-from}
+use Rattle.rules.specs.NodesLanesEdges.{Node, Edge, edgeOf, lanes, isLevel, takesPart, laneOf, edgesFrom, neighbours, edgesOf, levelAt, standsAt, isEnd, isEndOfSome, endsStand, onlyEndsStand, nodeOf, withNode}
+use Rattle.rules.proofs.Tests.{Means, reworded, denied, some-or-none, in-placed, placed-ascends, and-means, or-means, lt-means, le-means, eq-means, In, Some, Each, each-cons, any-means, all-means, in-made, Ascends, ascends-lower, ascends-from}
 
 -- a level is 1 to 8
 abbrev pub Level : ℕ → Type 0
@@ -146,3 +147,68 @@ level-there c (m ∷ ms) a n (inr i) =
 pub level-nowhere : (k : ℕ) (ns : List Node) → Each (λ n. n .key ≡ k → ⊥) ns → levelAt k ns ≡ 0
 level-nowhere k [] h = refl
 level-nowhere k (n ∷ ns) h = rw (ne-eqb (n .key) k (h n (inl refl))) (level-nowhere k ns (λ m i. h m (inr i)))
+
+-- ---- a node made at a key
+
+-- no node stands at the key
+abbrev pub NoNodeAt : ℕ → List Node → Type 0
+NoNodeAt k ns = Each (λ n. n .key ≡ k → ⊥) ns
+
+pub node-or-none : (k : ℕ) (ns : List Node) → NodeAt k ns ⊎ NoNodeAt k ns
+node-or-none k ns = some-or-none (λ n. eq-means (n .key) k) ns
+
+module _ (k l : ℕ) (ns : List Node) where
+  -- where a node stands nothing is made ..
+  pub nothing-made : NodeAt k ns → withNode k l ns ≡ ns
+  unfolding withNode
+  nothing-made s = rw (stands-at-means k ns .test s)
+
+  -- .. and where none stands the node made is placed among the others
+  pub node-placed : NoNodeAt k ns → withNode k l ns ≡ placed (λ n. n .key) (nodeOf k l) ns
+  unfolding withNode
+  node-placed h = rw (denied (stands-at-means k ns) .test (λ s. h (s .0) (s .1) (s .2)))
+
+  -- a node that stood, or the made one exactly when none stood at the key
+  pub in-with-node : (n : Node) → In n (withNode k l ns) ↔ (In n ns ⊎ ((n ≡ nodeOf k l) × NoNodeAt k ns))
+  in-with-node n =
+      ⊎-elim
+      (λ s. rw (nothing-made s) (inl, ⊎-elim (λ i. i) (λ h. absurd (h .1 (s .0) (s .1) (s .2)))))
+      (λ h. rw (node-placed h)
+      (Iff·trans (in-placed (λ m. m .key) (nodeOf k l) n ns) (⊎-elim (λ e. inr (e, h)) inl, ⊎-elim inr (λ m. inl (m .0)))))
+      (node-or-none k ns)
+
+  -- a node stands after at the key and where one stood
+  pub at-with-node : (j : ℕ) → NodeAt j (withNode k l ns) ↔ ((j ≡ k) ⊎ NodeAt j ns)
+  at-with-node j = (from, ⊎-elim there still)
+    where
+      from : NodeAt j (withNode k l ns) → (j ≡ k) ⊎ NodeAt j ns
+      from s = ⊎-elim (λ i. inr (s .0, i, s .2)) (λ m. inl (sym (s .2) ∙ ap (λ n. n .key) (m .0))) (in-with-node (s .0) .0 (s .1))
+
+      still : NodeAt j ns → NodeAt j (withNode k l ns)
+      still s = (s .0, in-with-node (s .0) .1 (inl (s .1)), s .2)
+
+      there : j ≡ k → NodeAt j (withNode k l ns)
+      there e =
+          ⊎-elim
+          (λ s. still (s .0, s .1, s .2 ∙ sym e))
+          (λ h. (nodeOf k l, in-with-node (nodeOf k l) .1 (inr (refl, h)), sym e))
+          (node-or-none k ns)
+
+  pub stands-with-node : (j : ℕ) → Means (standsAt j (withNode k l ns)) ((j ≡ k) ⊎ NodeAt j ns)
+  stands-with-node j = reworded (stands-at-means j (withNode k l ns)) (at-with-node j .0) (at-with-node j .1)
+
+  module _ (a : Asc 0 ns) where
+    pub with-node-ascends : Asc 0 (withNode k l ns)
+    with-node-ascends =
+        ⊎-elim
+        (λ s. rw (nothing-made s) a)
+        (λ h. rw (node-placed h) (placed-ascends (λ n. n .key) (nodeOf k l) 0 ns (omega arith) h a))
+        (node-or-none k ns)
+
+    -- a node that stood stays with its level ..
+    pub level-stays : Each (λ n. levelAt (n .key) (withNode k l ns) ≡ n .level) ns
+    level-stays n i = level-there 0 (withNode k l ns) with-node-ascends n (in-with-node n .1 (inl i))
+
+    -- .. and a made one has the level given
+    pub level-given : NoNodeAt k ns → levelAt k (withNode k l ns) ≡ l
+    level-given h = level-there 0 (withNode k l ns) with-node-ascends (nodeOf k l) (in-with-node (nodeOf k l) .1 (inr (refl, h)))

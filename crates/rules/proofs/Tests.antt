@@ -12,7 +12,7 @@ use native.Mathlib.Nat.{eq-or-lt-of-le}
 use lib.Dec.{leb, ltb, eqb}
 use lib.ListN.{length}
 use borrow.Author.Tests.{ltb-true, ltb-false, leb-true, leb-false, eqb-true, not-true, not-false, lt-ltb, le-ltb, le-leb, lt-leb, eq-eqb}
-use Rattle.rules.specs.Tests.{_and_, _or_, oneIf, addIf, any, all, keep, firstOf, countIf, member, distinct, someLane}
+use Rattle.rules.specs.Tests.{_and_, _or_, oneIf, addIf, any, all, keep, firstOf, countIf, member, distinct, someLane, placed}
 
 -- ---- one test, two tests
 
@@ -435,29 +435,24 @@ module _ {A : Type 0} (number : A → ℕ) where
         (h .0),
   )
 
-  -- x placed among the others in the order of their numbers, before the first that is above it
-  abbrev pub placed : A → List A → List A
-  placed x [] = x ∷ []
-  placed x (y ∷ ys) = cond (ltb (number x) (number y)) (x ∷ y ∷ ys) (y ∷ placed x ys)
-
-  pub in-placed : (x y : A) (xs : List A) → In y (placed x xs) ↔ ((y ≡ x) ⊎ In y xs)
+  pub in-placed : (x y : A) (xs : List A) → In y (placed number x xs) ↔ ((y ≡ x) ⊎ In y xs)
   in-placed x y [] = (λ i. i, λ i. i)
   in-placed x y (z ∷ zs) = go (ltb (number x) (number z)) (in-placed x y zs)
     where
-      go : (t : Bool) → In y (placed x zs) ↔ ((y ≡ x) ⊎ In y zs)
-          → In y (cond t (x ∷ z ∷ zs) (z ∷ placed x zs)) ↔ ((y ≡ x) ⊎ In y (z ∷ zs))
+      go : (t : Bool) → In y (placed number x zs) ↔ ((y ≡ x) ⊎ In y zs)
+          → In y (cond t (x ∷ z ∷ zs) (z ∷ placed number x zs)) ↔ ((y ≡ x) ⊎ In y (z ∷ zs))
       go true e = (λ i. i, λ i. i)
-      go false e = in-later x y z (placed x zs) zs e
+      go false e = in-later x y z (placed number x zs) zs e
 
   -- a new number placed keeps the list ascending
   pub placed-ascends : (x : A) (c : ℕ) (xs : List A) → c ≤ number x → Each (λ y. number y ≡ number x → ⊥) xs → Ascends c xs
-      → Ascends c (placed x xs)
+      → Ascends c (placed number x xs)
   placed-ascends x c [] l h a = (l, tt)
   placed-ascends x c (y ∷ ys) l h a = go (ltb (number x) (number y)) refl (placed-ascends x (suc (number y)) ys)
     where
       go : (t : Bool) → ltb (number x) (number y) ≡ t
           → (suc (number y) ≤ number x → Each (λ z. number z ≡ number x → ⊥) ys → Ascends (suc (number y)) ys
-          → Ascends (suc (number y)) (placed x ys))
-          → Ascends c (cond t (x ∷ y ∷ ys) (y ∷ placed x ys))
+          → Ascends (suc (number y)) (placed number x ys))
+          → Ascends c (cond t (x ∷ y ∷ ys) (y ∷ placed number x ys))
       go true e ih = (l, (ltb-true (number x) (number y) e, a .1))
       go false e ih = let off = h y (inl refl) in (a .0, ih (omega (arith, ltb-false (number x) (number y) e)) (λ z i. h z (inr i)) (a .1))

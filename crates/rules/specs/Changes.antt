@@ -1,18 +1,16 @@
 -- "What is built": the profile after an insert and after a remove.
 -- Assumes nothing.
 use Prim.Native.Nat.{ℕ}
-use mathlib.Core.Bool.{Bool, not, cond}
-use mathlib.Core.List.{List, [], _∷_}
-use lib.Dec.{ltb}
-use Rattle.rules.specs.Tests.{keep}
+use mathlib.Core.Bool.{Bool, not}
+use mathlib.Core.List.{List}
+use Rattle.rules.specs.Tests.{keep, placed}
 use Rattle.rules.specs.HallLine.{Band}
 use Rattle.rules.specs.NodesLanesEdges.{Node, withNode, isEndOfSome}
 use Rattle.rules.specs.Profile.{Profile, profileOf, hasNumber}
 
 -- the band among the others, in number order
-abbrev pub withBand : Band → List Band → List Band
-withBand b [] = b ∷ []
-withBand b (c ∷ cs) = cond (ltb (b .number) (c .number)) (b ∷ c ∷ cs) (c ∷ withBand b cs)
+unfoldable pub withBand : Band → List Band → List Band
+withBand b bs = placed (λ c. c .number) b bs
 
 -- nodes made for the band's ends where none stands, the low end first: a one-key band takes the low end's level
 unfoldable pub withEnds : Band → ℕ → ℕ → List Node → List Node

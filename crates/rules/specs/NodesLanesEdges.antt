@@ -4,7 +4,7 @@ use Prim.Native.Nat.{ℕ, suc}
 use mathlib.Core.Bool.{Bool, cond}
 use mathlib.Core.List.{List, [], _∷_}
 use lib.Dec.{leb, ltb, eqb}
-use Rattle.rules.specs.Tests.{_and_, _or_, addIf, any, all}
+use Rattle.rules.specs.Tests.{_and_, _or_, addIf, any, all, placed}
 use Rattle.rules.specs.HallLine.{Band}
 
 -- a node: the key it stands at, and its level
@@ -79,7 +79,5 @@ unfoldable pub onlyEndsStand : List Band → List Node → Bool
 onlyEndsStand bs ns = all (λ n. isEndOfSome bs (n .key)) ns
 
 -- a node made at the key with the given level, in key order; a node that stands there already stays with its own level
-abbrev pub withNode : ℕ → ℕ → List Node → List Node
-withNode k l [] = nodeOf k l ∷ []
-withNode k l (n ∷ ns) =
-    cond (ltb k (n .key)) (nodeOf k l ∷ n ∷ ns) (cond (eqb k (n .key)) (n ∷ ns) (n ∷ withNode k l ns))
+unfoldable pub withNode : ℕ → ℕ → List Node → List Node
+withNode k l ns = cond (standsAt k ns) ns (placed (λ n. n .key) (nodeOf k l) ns)

@@ -1,10 +1,10 @@
 -- Tests and counts over lists, numbers and lanes, from which the rules are worded. Knows nothing of the hall.
 -- Assumes nothing.
 use Prim.Native.Nat.{ℕ, zero, suc, _+_}
-use mathlib.Core.Bool.{Bool, true, false, not}
+use mathlib.Core.Bool.{Bool, true, false, not, cond}
 use mathlib.Core.List.{List, [], _∷_}
 use mathlib.Core.Option.{Option, none, some}
-use lib.Dec.{eqb}
+use lib.Dec.{ltb, eqb}
 
 infixr 35 _and_
 infixr 30 _or_
@@ -53,6 +53,11 @@ module _ {A : Type 0} where
   abbrev pub firstOf : List A → Option A
   firstOf [] = none
   firstOf (x ∷ xs) = some x
+
+  -- x among the others in the order of their numbers, before the first that is above it
+  abbrev pub placed : (A → ℕ) → A → List A → List A
+  placed number x [] = x ∷ []
+  placed number x (y ∷ ys) = cond (ltb (number x) (number y)) (x ∷ y ∷ ys) (y ∷ placed number x ys)
 
   -- how many pass
   abbrev pub countIf : (A → Bool) → List A → ℕ
