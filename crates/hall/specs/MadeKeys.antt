@@ -3,7 +3,7 @@
 use Prim.Native.Nat.{ℕ}
 use mathlib.Core.Bool.{cond}
 use lib.Dec.{ltb}
-use Rattle.rules.specs.HallLine.{machines, firstKey, inRanges, keyOf}
+use Rattle.rules.specs.HallLine.{machines, firstKey, partsInRange, keyOf}
 use Rattle.hall.specs.Says.{MaybeKey, aKey, noKey}
 
 -- a machine's first key
@@ -12,4 +12,4 @@ firstMade machine = cond (ltb machine machines) (aKey (firstKey machine)) noKey
 
 -- the key of a machine's sensor at a reading
 unfoldable pub keyMade : ℕ → ℕ → ℕ → MaybeKey
-keyMade machine sensor reading = cond (inRanges machine sensor reading) (aKey (keyOf machine sensor reading)) noKey
+keyMade machine sensor reading = cond (partsInRange machine sensor reading) (aKey (keyOf machine sensor reading)) noKey

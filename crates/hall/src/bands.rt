@@ -2,7 +2,7 @@
 // Tests are joined by `&` and `|`, which do not branch: such a function has one answer to prove.
 ghost use mathlib.Core.Path.{_≡_};
 ghost use Prim.Native.Nat.{_≤_};
-ghost use Rattle.rules.specs.HallLine.{highestKey, holds, firstPast, holdsSome, withinScope};
+ghost use Rattle.rules.specs.HallLine.{highestKey, holds, firstPast, holdsWholeKey, withinScope};
 ghost use Rattle.rules.specs.NodesLanesEdges.{isLevel};
 ghost use Rattle.rules.specs.BoxSaysNo.{bandFault, faultOf};
 ghost use Rattle.hall.specs.Says.{answerSays};
@@ -52,7 +52,7 @@ impl Band {
         if Key::HIGHEST.0 < self.high.0 {
             return Answer::Refused(Refusal::KeyAbove);
         }
-        if !self.holds_some() {
+        if !self.holds_whole_key() {
             return Answer::Refused(Refusal::HoldsNoKey);
         }
         if !self.within_scope() {
@@ -90,9 +90,9 @@ impl Band {
     }
 
     // Whether the band holds a whole key: the first past its low end, if any.
-    fn holds_some(self) -> bool
+    fn holds_whole_key(self) -> bool
         requires { ⌜ self .low .0 ≤ highestKey ⌝ }
-        ensures { λ r. ⌜ r ≡ holdsSome (said self) ⌝ }
+        ensures { λ r. ⌜ r ≡ holdsWholeKey (said self) ⌝ }
     {
         self.holds(self.first_past())
     }

@@ -8,22 +8,22 @@ use mathlib.Core.Logic.{_↔_, Iff·trans, _⊎_, inl, inr}
 use mathlib.Core.List.{List, [], _∷_, _++_}
 use native.Mathlib.Omega.{arith}
 use lib.ListN.{length}
-use Rattle.rules.specs.HallLine.{Band, highestKey, highestNumber, house, holds, holdsSome, withinScope}
+use Rattle.rules.specs.HallLine.{Band, highestKey, highestBandNumber, house, holds, holdsWholeKey, withinScope}
 use Rattle.rules.specs.NodesLanesEdges.{lanes, isLevel, standsAt, levelAt}
 use Rattle.rules.specs.Profile.{Profile, isLive}
 use Rattle.rules.specs.Marks.{marksInUse}
 use Rattle.rules.specs.Changes.{inserted, removed}
-use Rattle.rules.specs.BoxSaysNo.{Room, inRange, Line, lowest, sizesWrong, notSound, scopeAbove, numberAbove, keyAbove, endAbove, holdsNone, endElsewhere, levelWrong, numberLive, numberNotLive, scopeOther, nodesExceed, marksExceed, noNode, noLane, bandLines, insertLines, removeLines, stabLines, bandReadLines, edgeReadLines, nodeReadLines, keyFault, bandFault, faultOf, insertRefusal, removeRefusal, emptyRefusal, stabRefusal, bandRefusal, edgeRefusal, nodeRefusal, roomRefusal}
+use Rattle.rules.specs.BoxSaysNo.{Room, roomInRange, TableLine, lowest, sizesWrong, notSound, scopeAbove, numberAbove, keyAbove, endAbove, holdsNone, endElsewhere, levelWrong, numberLive, numberNotLive, scopeOther, nodesExceed, marksExceed, noNode, noLane, bandLines, insertLines, removeLines, stabLines, bandReadLines, edgeReadLines, nodeReadLines, keyFault, bandFault, faultOf, insertRefusal, removeRefusal, emptyRefusal, stabRefusal, bandReadRefusal, edgeReadRefusal, nodeReadRefusal, roomReadRefusal}
 use Rattle.rules.proofs.Tests.{Means, Fails, never, reworded, itself, denied, not-means, not-fails, and-means, and-fails, and3-means, or-means, or-fails, implies-fails, lt-means, lt-fails, le-means, le-fails, eq-means, Some, Each, some-cons, each-cons, any-means, any-fails}
-use Rattle.rules.proofs.HallLine.{Own, own-key-means, holds-some-means}
+use Rattle.rules.proofs.HallLine.{Own, own-key-means, holds-whole-key-means}
 use Rattle.rules.proofs.NodesLanesEdges.{Level, is-level-means, NodeAt, stands-at-means}
 use Rattle.rules.proofs.Profile.{has-number-means, is-live-means}
 
 -- ---- each line
 
-pub in-range-means : (r : Room) → Means (inRange r) (((1 ≤ r .nodes) × (r .nodes ≤ 2048)) × ((1 ≤ r .marks) × (r .marks ≤ 16384)))
-unfolding inRange
-in-range-means r =
+pub room-in-range-means : (r : Room) → Means (roomInRange r) (((1 ≤ r .nodes) × (r .nodes ≤ 2048)) × ((1 ≤ r .marks) × (r .marks ≤ 16384)))
+unfolding roomInRange
+room-in-range-means r =
     reworded
     (and-means (le-means 1 (r .nodes)) (and3-means (le-means (r .nodes) 2048) (le-means 1 (r .marks)) (le-means (r .marks) 16384)))
     (λ h. ((h .0, h .1 .0), (h .1 .1, h .1 .2)))
@@ -41,8 +41,8 @@ pub scope-above-means : (s : ℕ) → Means (scopeAbove s .applies) (house < s)
 scope-above-means s = lt-means house s
 
 -- 3
-pub number-above-means : (n : ℕ) → Means (numberAbove n .applies) (highestNumber < n)
-number-above-means n = lt-means highestNumber n
+pub number-above-means : (n : ℕ) → Means (numberAbove n .applies) (highestBandNumber < n)
+number-above-means n = lt-means highestBandNumber n
 
 -- 4
 pub key-above-means : (k : ℕ) → Means (keyAbove k .applies) (highestKey < k)
@@ -53,7 +53,7 @@ end-above-means b = or-means (lt-means highestKey (b .low)) (lt-means highestKey
 
 -- 5
 pub holds-none-means : (b : Band) → Means (holdsNone b .applies) ((k : ℕ) → holds b k ≡ true → ⊥)
-holds-none-means b = reworded (not-means (denied (holds-some-means b))) (λ h k e. h (k, e)) (λ h s. h (s .0) (s .1))
+holds-none-means b = reworded (not-means (denied (holds-whole-key-means b))) (λ h k e. h (k, e)) (λ h s. h (s .0) (s .1))
 
 -- 6
 pub end-elsewhere-means :
@@ -109,25 +109,25 @@ module _ (room : Room) (after : Profile) where
 -- ---- the lowest number that applies
 
 -- the first line decides where it applies ..
-pub lowest-here : (l : Line) (ls : List Line) → l .applies ≡ true → lowest (l ∷ ls) ≡ l .refusal
+pub lowest-here : (l : TableLine) (ls : List TableLine) → l .applies ≡ true → lowest (l ∷ ls) ≡ l .refusal
 lowest-here l ls e = rw e
 
 -- .. and where it does not, the others do
-pub lowest-next : (l : Line) (ls : List Line) → l .applies ≡ false → lowest (l ∷ ls) ≡ lowest ls
+pub lowest-next : (l : TableLine) (ls : List TableLine) → l .applies ≡ false → lowest (l ∷ ls) ≡ lowest ls
 lowest-next l ls e = rw e
 
 -- lines of which none applies are passed over
-pub lowest-past : (xs ys : List Line) → Each (λ l. l .applies ≡ false) xs → lowest (xs ++ ys) ≡ lowest ys
+pub lowest-past : (xs ys : List TableLine) → Each (λ l. l .applies ≡ false) xs → lowest (xs ++ ys) ≡ lowest ys
 lowest-past [] ys h = refl
 lowest-past (l ∷ ls) ys h = lowest-next l (ls ++ ys) (h l (inl refl)) ∙ lowest-past ls ys (λ m i. h m (inr i))
 
 -- the first line that applies is given
-pub lowest-first : (xs : List Line) (l : Line) (ys : List Line) → Each (λ m. m .applies ≡ false) xs → l .applies ≡ true
+pub lowest-first : (xs : List TableLine) (l : TableLine) (ys : List TableLine) → Each (λ m. m .applies ≡ false) xs → l .applies ≡ true
     → lowest (xs ++ l ∷ ys) ≡ l .refusal
 lowest-first xs l ys h e = lowest-past xs (l ∷ ys) h ∙ lowest-here l ys e
 
 -- where lines give a number, lines after them change nothing
-pub lowest-enough : (xs ys : List Line) → (lowest xs ≡ 0 → ⊥) → lowest (xs ++ ys) ≡ lowest xs
+pub lowest-enough : (xs ys : List TableLine) → (lowest xs ≡ 0 → ⊥) → lowest (xs ++ ys) ≡ lowest xs
 lowest-enough [] ys h = absurd (h refl)
 lowest-enough (l ∷ ls) ys h = go (l .applies) refl (lowest-enough ls ys)
   where
@@ -135,16 +135,16 @@ lowest-enough (l ∷ ls) ys h = go (l .applies) refl (lowest-enough ls ys)
     go true e ih = rw e
     go false e ih = rw e (ih (λ z. h (lowest-next l ls e ∙ z)))
 
--- the lines' numbers ascend, the first at least c; neighbours may have one number
-abbrev pub Ordered : ℕ → List Line → Type 0
+-- the lines' numbers ascend, the first at least c; edgesAlong may have one number
+abbrev pub Ordered : ℕ → List TableLine → Type 0
 Ordered c [] = Unit {0}
 Ordered c (l ∷ ls) = (c ≤ l .refusal) × Ordered (l .refusal) ls
 
-ordered-lower : (c d : ℕ) (ls : List Line) → c ≤ d → Ordered d ls → Ordered c ls
+ordered-lower : (c d : ℕ) (ls : List TableLine) → c ≤ d → Ordered d ls → Ordered c ls
 ordered-lower c d [] h o = tt
 ordered-lower c d (l ∷ ls) h o = (omega arith, o .1)
 
-ordered-from : (c : ℕ) (ls : List Line) → Ordered c ls → Each (λ l. c ≤ l .refusal) ls
+ordered-from : (c : ℕ) (ls : List TableLine) → Ordered c ls → Each (λ l. c ≤ l .refusal) ls
 ordered-from c [] o = λ l i. absurd i
 ordered-from c (l ∷ ls) o = each-cons l ls .1 (o .0, ordered-from c ls (ordered-lower c (l .refusal) ls (o .0) (o .1)))
 
@@ -159,17 +159,17 @@ last-zero {a = true} r h m = (λ z. absurd (omega arith), λ x. never (sym (m .t
 last-zero {a = false} r h m = (λ z. m .fact refl, λ x. refl)
 
 -- of lines in order 0 is given exactly when none applies
-pub lowest-zero : (ls : List Line) → Ordered 1 ls → (lowest ls ≡ 0) ↔ Each (λ l. l .applies ≡ false) ls
+pub lowest-zero : (ls : List TableLine) → Ordered 1 ls → (lowest ls ≡ 0) ↔ Each (λ l. l .applies ≡ false) ls
 lowest-zero [] o = (λ z l i. absurd i, λ h. refl)
 lowest-zero (l ∷ ls) o =
     let e = line-zero (l .refusal) (o .0) (itself (l .applies)) (lowest-zero ls (ordered-lower 1 (l .refusal) ls (o .0) (o .1))) in
     (λ z. each-cons l ls .1 (e .0 z), λ h. e .1 (each-cons l ls .0 h))
 
 -- a line of that number applies, and no line that applies has a lower number
-abbrev pub Given : List Line → ℕ → Type 0
+abbrev pub Given : List TableLine → ℕ → Type 0
 Given ls n = Some (λ l. (l .applies ≡ true) × (l .refusal ≡ n)) ls × Each (λ l. l .applies ≡ true → n ≤ l .refusal) ls
 
-given : (c : ℕ) (ls : List Line) → Ordered c ls → (lowest ls ≡ 0 → ⊥) → Given ls (lowest ls)
+given : (c : ℕ) (ls : List TableLine) → Ordered c ls → (lowest ls ≡ 0 → ⊥) → Given ls (lowest ls)
 given c [] o h = absurd (h refl)
 given c (l ∷ ls) o h = go (l .applies) refl (given (l .refusal) ls (o .1))
   where
@@ -183,7 +183,7 @@ given c (l ∷ ls) o h = go (l .applies) refl (given (l .refusal) ls (o .1))
         (some-cons l ls .1 (inr (g .0)), each-cons l ls .1 (λ a. never (sym e ∙ a), g .1))
 
 -- .. and another number exactly when a line of that number applies and none that applies has a lower number
-pub lowest-given : (ls : List Line) → Ordered 1 ls → (n : ℕ) → 0 < n → (lowest ls ≡ n) ↔ Given ls n
+pub lowest-given : (ls : List TableLine) → Ordered 1 ls → (n : ℕ) → 0 < n → (lowest ls ≡ n) ↔ Given ls n
 lowest-given ls o n h = (λ e. subst (Given ls) e (given 1 ls o (λ z. omega arith)), same)
   where
     same : Given ls n → lowest ls ≡ n
@@ -219,20 +219,20 @@ module _ (sizesRight : Bool) (p : Profile) where
 -- a band that is right by 2 to 6
 pub record BandRight (b : Band) : Type 0 where
   pub scope-right : b .scope ≤ house
-  pub number-right : b .number ≤ highestNumber
+  pub number-right : b .number ≤ highestBandNumber
   pub low-on-line : b .low ≤ highestKey
   pub high-on-line : b .high ≤ highestKey
-  pub holds-key : holdsSome b ≡ true
+  pub holds-key : holdsWholeKey b ≡ true
   pub in-scope : withinScope b ≡ true
 
 -- nothing is given by 2 to 6 and lines after them exactly when the band is right and nothing is given by the lines after them
-pub band-lines-zero : {X : Type 0} (b : Band) (ls : List Line) → (lowest ls ≡ 0) ↔ X → (lowest (bandLines b ++ ls) ≡ 0) ↔ (BandRight b × X)
+pub band-lines-zero : {X : Type 0} (b : Band) (ls : List TableLine) → (lowest ls ≡ 0) ↔ X → (lowest (bandLines b ++ ls) ≡ 0) ↔ (BandRight b × X)
 band-lines-zero b ls e =
     Iff·trans
     (line-zero 2 (omega arith) (lt-fails house (b .scope))
-    (line-zero 3 (omega arith) (lt-fails highestNumber (b .number))
+    (line-zero 3 (omega arith) (lt-fails highestBandNumber (b .number))
     (line-zero 4 (omega arith) (or-fails (lt-fails highestKey (b .low)) (lt-fails highestKey (b .high)))
-    (line-zero 5 (omega arith) (not-fails (itself (holdsSome b)))
+    (line-zero 5 (omega arith) (not-fails (itself (holdsWholeKey b)))
     (line-zero 6 (omega arith) (not-fails (itself (withinScope b))) e))))) (
       λ h. (
         record {
@@ -286,7 +286,7 @@ pub record InsertTaken (sizesRight sound : Bool) (room : Room) (p : Profile) (b 
 pub record RemoveTaken (sizesRight sound : Bool) (room : Room) (p : Profile) (number scope : ℕ) : Type 0 where
   pub memory-right : (sizesRight ≡ true) × (sound ≡ true)
   pub scope-right : scope ≤ house
-  pub number-right : number ≤ highestNumber
+  pub number-right : number ≤ highestBandNumber
   pub number-live : Some (λ b. b .number ≡ number) (p .bands)
   pub scope-same : Each (λ b. b .number ≡ number → b .scope ≡ scope) (p .bands)
   pub marks-fit : marksInUse (removed p number) ≤ room .marks
@@ -320,7 +320,7 @@ module _ (sizesRight sound : Bool) (room : Room) (p : Profile) where
       Iff·trans
       (line-zero 1 (omega arith) (not-fails (and-means (itself sizesRight) (itself sound)))
       (line-zero 2 (omega arith) (lt-fails house scope)
-      (line-zero 3 (omega arith) (lt-fails highestNumber number)
+      (line-zero 3 (omega arith) (lt-fails highestBandNumber number)
       (line-zero 9 (omega arith) (not-fails (is-live-means number (p .bands)))
       (line-zero 10 (omega arith) (any-fails (λ b. implies-fails (has-number-means number b) (eq-means (b .scope) scope)) (p .bands))
       (last-zero 12 (omega arith) (lt-fails (room .marks) (marksInUse (removed p number))))))))) (
@@ -340,8 +340,8 @@ module _ (sizesRight : Bool) where
   unfolding emptyRefusal
   empty-taken = last-zero 1 (omega arith) (not-fails (itself sizesRight))
 
-  pub room-taken : (roomRefusal sizesRight ≡ 0) ↔ (sizesRight ≡ true)
-  unfolding roomRefusal
+  pub room-taken : (roomReadRefusal sizesRight ≡ 0) ↔ (sizesRight ≡ true)
+  unfolding roomReadRefusal
   room-taken = last-zero 1 (omega arith) (not-fails (itself sizesRight))
 
   pub stab-taken : (k : ℕ) → (stabRefusal sizesRight k ≡ 0) ↔ ((sizesRight ≡ true) × (k ≤ highestKey))
@@ -349,21 +349,21 @@ module _ (sizesRight : Bool) where
   stab-taken k = line-zero 1 (omega arith) (not-fails (itself sizesRight)) (last-zero 4 (omega arith) (lt-fails highestKey k))
 
   module _ (p : Profile) where
-    pub band-taken : (n : ℕ) → (bandRefusal sizesRight p n ≡ 0) ↔ ((sizesRight ≡ true) × ((n ≤ highestNumber) × Some (λ b. b .number ≡ n) (p .bands)))
-    unfolding bandRefusal
+    pub band-taken : (n : ℕ) → (bandReadRefusal sizesRight p n ≡ 0) ↔ ((sizesRight ≡ true) × ((n ≤ highestBandNumber) × Some (λ b. b .number ≡ n) (p .bands)))
+    unfolding bandReadRefusal
     band-taken n =
         line-zero 1 (omega arith) (not-fails (itself sizesRight))
-        (line-zero 3 (omega arith) (lt-fails highestNumber n) (last-zero 9 (omega arith) (not-fails (is-live-means n (p .bands)))))
+        (line-zero 3 (omega arith) (lt-fails highestBandNumber n) (last-zero 9 (omega arith) (not-fails (is-live-means n (p .bands)))))
 
-    pub node-taken : (k : ℕ) → (nodeRefusal sizesRight p k ≡ 0) ↔ ((sizesRight ≡ true) × ((k ≤ highestKey) × NodeAt k (p .nodes)))
-    unfolding nodeRefusal
+    pub node-taken : (k : ℕ) → (nodeReadRefusal sizesRight p k ≡ 0) ↔ ((sizesRight ≡ true) × ((k ≤ highestKey) × NodeAt k (p .nodes)))
+    unfolding nodeReadRefusal
     node-taken k =
         line-zero 1 (omega arith) (not-fails (itself sizesRight))
         (line-zero 4 (omega arith) (lt-fails highestKey k) (last-zero 13 (omega arith) (not-fails (stands-at-means k (p .nodes)))))
 
     pub edge-taken : (k i : ℕ)
-        → (edgeRefusal sizesRight p k i ≡ 0) ↔ ((sizesRight ≡ true) × ((k ≤ highestKey) × (NodeAt k (p .nodes) × (i < levelAt k (p .nodes)))))
-    unfolding edgeRefusal
+        → (edgeReadRefusal sizesRight p k i ≡ 0) ↔ ((sizesRight ≡ true) × ((k ≤ highestKey) × (NodeAt k (p .nodes) × (i < levelAt k (p .nodes)))))
+    unfolding edgeReadRefusal
     edge-taken k i =
         line-zero 1 (omega arith) (not-fails (itself sizesRight))
         (line-zero 4 (omega arith) (lt-fails highestKey k)

@@ -6,15 +6,15 @@ use mathlib.Core.Bool.{true, false}
 use mathlib.Core.List.{[], _∷_}
 use borrow.Author.Tests.{lt-ltb, le-ltb}
 use Rattle.rules.specs.Tests.{_and_, _or_}
-use Rattle.rules.specs.HallLine.{Band, highestKey, highestNumber, house, holdsSome, withinScope}
+use Rattle.rules.specs.HallLine.{Band, highestKey, highestBandNumber, house, holdsWholeKey, withinScope}
 use Rattle.rules.specs.NodesLanesEdges.{isLevel}
 use Rattle.rules.specs.BoxSaysNo.{lowest, holdsNone, endElsewhere, bandFault, faultOf}
 use Rattle.rules.proofs.BoxSaysNo.{fault-of-levels}
 
 -- no number of the band is above its highest
-pub record InRange (b : Band) : Type 0 where
+pub record NoneAbove (b : Band) : Type 0 where
   pub scope : b .scope ≤ house
-  pub number : b .number ≤ highestNumber
+  pub number : b .number ≤ highestBandNumber
   pub low : b .low ≤ highestKey
   pub high : b .high ≤ highestKey
 
@@ -23,31 +23,31 @@ module _ (b : Band) where
   unfolding bandFault
   by-2 above = rw (lt-ltb _ _ above)
 
-  pub by-3 : b .scope ≤ house → highestNumber < b .number → 3 ≡ bandFault b
+  pub by-3 : b .scope ≤ house → highestBandNumber < b .number → 3 ≡ bandFault b
   unfolding bandFault
   by-3 scope above = rw (le-ltb _ _ scope, lt-ltb _ _ above)
 
-  pub by-4-low : b .scope ≤ house → b .number ≤ highestNumber → highestKey < b .low → 4 ≡ bandFault b
+  pub by-4-low : b .scope ≤ house → b .number ≤ highestBandNumber → highestKey < b .low → 4 ≡ bandFault b
   unfolding bandFault _or_
   by-4-low scope number above = rw (le-ltb _ _ scope, le-ltb _ _ number, lt-ltb _ _ above)
 
-  pub by-4-high : b .scope ≤ house → b .number ≤ highestNumber → b .low ≤ highestKey → highestKey < b .high → 4 ≡ bandFault b
+  pub by-4-high : b .scope ≤ house → b .number ≤ highestBandNumber → b .low ≤ highestKey → highestKey < b .high → 4 ≡ bandFault b
   unfolding bandFault _or_
   by-4-high scope number low above = rw (le-ltb _ _ scope, le-ltb _ _ number, le-ltb _ _ low, lt-ltb _ _ above)
 
-  module _ (r : InRange b) where
+  module _ (r : NoneAbove b) where
     -- the lines that are left
     left : bandFault b ≡ lowest (holdsNone b ∷ endElsewhere b ∷ [])
     unfolding bandFault _or_
     left = rw (le-ltb _ _ (r .scope), le-ltb _ _ (r .number), le-ltb _ _ (r .low), le-ltb _ _ (r .high))
 
-    pub by-5 : holdsSome b ≡ false → 5 ≡ bandFault b
+    pub by-5 : holdsWholeKey b ≡ false → 5 ≡ bandFault b
     by-5 none = rw (left, none)
 
-    pub by-6 : holdsSome b ≡ true → withinScope b ≡ false → 6 ≡ bandFault b
+    pub by-6 : holdsWholeKey b ≡ true → withinScope b ≡ false → 6 ≡ bandFault b
     by-6 some elsewhere = rw (left, some, elsewhere)
 
-    pub by-none : holdsSome b ≡ true → withinScope b ≡ true → 0 ≡ bandFault b
+    pub by-none : holdsWholeKey b ≡ true → withinScope b ≡ true → 0 ≡ bandFault b
     by-none some within = rw (left, some, within)
 
 module _ (b : Band) (low high : ℕ) (none : bandFault b ≡ 0) where

@@ -10,12 +10,12 @@ use native.Mathlib.Omega.{arith}
 use native.Mathlib.Nat.{eq-or-lt-of-le}
 use lib.Dec.{eqb}
 use Rattle.rules.specs.Tests.{_and_, _or_}
-use Rattle.rules.specs.HallLine.{machines, sensors, readings, highestKey, keysPerMachine, house, inRanges, keyOf, firstKey, ownKey, Band, bandOf, pastLow, beforeHigh, holds, firstPast, holdsSome, withinScope}
+use Rattle.rules.specs.HallLine.{machines, sensors, readings, highestKey, keysPerMachine, house, partsInRange, keyOf, firstKey, ownKey, Band, bandOf, pastLow, beforeHigh, holds, firstPast, holdsWholeKey, withinScope}
 use Rattle.rules.proofs.Tests.{Means, same-means, passes-or-fails, itself, and-means, and3-means, or-means, lt-means, le-means, eq-means}
 
-pub in-ranges-means : (m s r : ℕ) → Means (inRanges m s r) ((m < machines) × (s < sensors) × (r < readings))
-unfolding inRanges
-in-ranges-means m s r = and3-means (lt-means m machines) (lt-means s sensors) (lt-means r readings)
+pub parts-in-range-means : (m s r : ℕ) → Means (partsInRange m s r) ((m < machines) × (s < sensors) × (r < readings))
+unfolding partsInRange
+parts-in-range-means m s r = and3-means (lt-means m machines) (lt-means s sensors) (lt-means r readings)
 
 -- the key is among the machine's own
 abbrev pub Own : ℕ → ℕ → Type 0
@@ -25,29 +25,29 @@ pub own-key-means : (m k : ℕ) → Means (ownKey m k) (Own m k)
 unfolding ownKey firstKey
 own-key-means m k = and-means (le-means (m * keysPerMachine) k) (lt-means k ((m + 1) * keysPerMachine))
 
-module _ (m s r : ℕ) (h : inRanges m s r ≡ true) where
+module _ (m s r : ℕ) (h : partsInRange m s r ≡ true) where
   pub key-on-line : keyOf m s r ≤ highestKey
   unfolding keyOf
-  key-on-line = let f = in-ranges-means m s r .fact h in omega arith
+  key-on-line = let f = parts-in-range-means m s r .fact h in omega arith
 
   pub key-is-its-machines : ownKey m (keyOf m s r) ≡ true
   unfolding keyOf
-  key-is-its-machines = let f = in-ranges-means m s r .fact h in own-key-means m _ .test (omega arith)
+  key-is-its-machines = let f = parts-in-range-means m s r .fact h in own-key-means m _ .test (omega arith)
 
-  pub key-one-to-one : (m′ s′ r′ : ℕ) → inRanges m′ s′ r′ ≡ true → keyOf m s r ≡ keyOf m′ s′ r′ → (m ≡ m′) × (s ≡ s′) × (r ≡ r′)
+  pub key-one-to-one : (m′ s′ r′ : ℕ) → partsInRange m′ s′ r′ ≡ true → keyOf m s r ≡ keyOf m′ s′ r′ → (m ≡ m′) × (s ≡ s′) × (r ≡ r′)
   unfolding keyOf
   key-one-to-one m′ s′ r′ h′ e =
-      let f = in-ranges-means m s r .fact h in
-      let f′ = in-ranges-means m′ s′ r′ .fact h′ in
+      let f = parts-in-range-means m s r .fact h in
+      let f′ = parts-in-range-means m′ s′ r′ .fact h′ in
       omega arith
 
-pub every-key : (k : ℕ) → k ≤ highestKey → (m : ℕ) × (s : ℕ) × (r : ℕ) × (inRanges m s r ≡ true) × (keyOf m s r ≡ k)
+pub every-key : (k : ℕ) → k ≤ highestKey → (m : ℕ) × (s : ℕ) × (r : ℕ) × (partsInRange m s r ≡ true) × (keyOf m s r ≡ k)
 unfolding keyOf
 every-key k h = (
   k / keysPerMachine,
   k % keysPerMachine / readings,
   k % readings,
-  in-ranges-means (k / keysPerMachine) (k % keysPerMachine / readings) (k % readings) .test (omega arith),
+  parts-in-range-means (k / keysPerMachine) (k % keysPerMachine / readings) (k % readings) .test (omega arith),
   omega arith,
 )
 
@@ -126,9 +126,9 @@ module _ (b : Band) where
   before-high-below j k l (inr h) = ⊎-elim (λ e. inr (e ∙ h .0, h .1)) (λ m. inl (omega arith)) (eq-or-lt-of-le l)
 
   -- a band holds a whole key exactly when some key is held by it
-  pub holds-some-means : Means (holdsSome b) ((k : ℕ) × (holds b k ≡ true))
-  unfolding holdsSome
-  holds-some-means = record { fact = λ h. (firstPast b, h); test = λ s. held (s .0) (holds-means b (s .0) .fact (s .1)) }
+  pub holds-whole-key-means : Means (holdsWholeKey b) ((k : ℕ) × (holds b k ≡ true))
+  unfolding holdsWholeKey
+  holds-whole-key-means = record { fact = λ h. (firstPast b, h); test = λ s. held (s .0) (holds-means b (s .0) .fact (s .1)) }
     where
       held : (k : ℕ) → Past b k × Before b k → holds b (firstPast b) ≡ true
       held k h = holds-means b (firstPast b) .test (first-past-low, before-high-below (firstPast b) k (first-past-least k (h .0)) (h .1))
@@ -146,8 +146,8 @@ module _ (b : Band) where
 
 -- (3,4) holds no whole key, (3,5) holds 4, [7,7] holds 7
 pub whole-keys :
-    (holdsSome (bandOf 0 house 3 4 false false) ≡ false)
+    (holdsWholeKey (bandOf 0 house 3 4 false false) ≡ false)
     × (holds (bandOf 0 house 3 5 false false) 4 ≡ true)
     × (holds (bandOf 0 house 7 7 true true) 7 ≡ true)
-unfolding _and_ _or_ pastLow beforeHigh holds firstPast holdsSome
+unfolding _and_ _or_ pastLow beforeHigh holds firstPast holdsWholeKey
 whole-keys = (refl, refl, refl)

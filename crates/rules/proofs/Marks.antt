@@ -9,9 +9,9 @@ use native.Mathlib.Omega.{arith}
 use lib.ListN.{length}
 use Rattle.rules.specs.Tests.{addIf, countIf}
 use Rattle.rules.specs.HallLine.{Band, holds}
-use Rattle.rules.specs.NodesLanesEdges.{Node, Edge, edgesOf, lanes}
+use Rattle.rules.specs.NodesLanesEdges.{Node, Edge, edgesIn, lanes}
 use Rattle.rules.specs.Profile.{Profile}
-use Rattle.rules.specs.Marks.{inside, contains, containedIn, edgeMarked, passesOver, passedIn, nodeMarked, numbersWhere, markedOnEdge, markedOnNode}
+use Rattle.rules.specs.Marks.{inside, contains, coveredInLane, edgeMarked, passesOver, passedOverInLane, nodeMarked, numbersWhere, markedOnEdge, markedOnNode}
 use Rattle.rules.proofs.Tests.{Means, reworded, itself, denied, not-means, and-means, lt-means, le-means, In, Some, any-means, Distinct, in-made, length-made, in-map, lane-fails}
 
 -- the edge lies inside the band
@@ -39,24 +39,24 @@ unfolding passesOver
 passes-over-means e k = and-means (lt-means (e .from) k) (lt-means k (e .to))
 
 module _ (ns : List Node) (b : Band) where
-  pub contained-in-means : (e : Edge) (j : ℕ) → Means (containedIn ns b e j) (Some (λ f. Contains f e × Inside f b) (edgesOf j ns))
-  unfolding containedIn
-  contained-in-means e j = any-means (λ f. and-means (contains-means f e) (inside-means f b)) (edgesOf j ns)
+  pub covered-in-lane-means : (e : Edge) (j : ℕ) → Means (coveredInLane ns b e j) (Some (λ f. Contains f e × Inside f b) (edgesIn j ns))
+  unfolding coveredInLane
+  covered-in-lane-means e j = any-means (λ f. and-means (contains-means f e) (inside-means f b)) (edgesIn j ns)
 
-  pub passed-in-means : (k j : ℕ) → Means (passedIn ns b k j) (Some (λ e. PassesOver e k × Inside e b) (edgesOf j ns))
-  unfolding passedIn
-  passed-in-means k j = any-means (λ e. and-means (passes-over-means e k) (inside-means e b)) (edgesOf j ns)
+  pub passed-over-in-lane-means : (k j : ℕ) → Means (passedOverInLane ns b k j) (Some (λ e. PassesOver e k × Inside e b) (edgesIn j ns))
+  unfolding passedOverInLane
+  passed-over-in-lane-means k j = any-means (λ e. and-means (passes-over-means e k) (inside-means e b)) (edgesIn j ns)
 
   -- a band is marked on an edge of lane i exactly when the edge lies inside the band
   -- and no edge of a lane above i both contains it and lies inside the band
   pub edge-mark-rule :
       (i : ℕ) (e : Edge)
       → Means (edgeMarked ns b i e)
-      (Inside e b × ((j : ℕ) → i < j → j < lanes → (f : Edge) → In f (edgesOf j ns) → Contains f e → Inside f b → ⊥))
+      (Inside e b × ((j : ℕ) → i < j → j < lanes → (f : Edge) → In f (edgesIn j ns) → Contains f e → Inside f b → ⊥))
   unfolding edgeMarked
   edge-mark-rule i e =
       reworded
-      (and-means (inside-means e b) (not-means (lane-fails (λ j. denied (contained-in-means e j)) (suc i) (lanes - suc i))))
+      (and-means (inside-means e b) (not-means (lane-fails (λ j. denied (covered-in-lane-means e j)) (suc i) (lanes - suc i))))
       (λ h. (h .0, λ j l u f m c n. h .1 j l (omega arith) (f, m, (c, n))))
       (λ h. (h .0, λ j l u s. h .1 j l (omega arith) (s .0) (s .1) (s .2 .0) (s .2 .1)))
 
@@ -64,11 +64,11 @@ module _ (ns : List Node) (b : Band) where
   pub node-mark-rule :
       (k : ℕ)
       → Means (nodeMarked ns b k)
-      ((holds b k ≡ true) × ((j : ℕ) → j < lanes → (e : Edge) → In e (edgesOf j ns) → PassesOver e k → Inside e b → ⊥))
+      ((holds b k ≡ true) × ((j : ℕ) → j < lanes → (e : Edge) → In e (edgesIn j ns) → PassesOver e k → Inside e b → ⊥))
   unfolding nodeMarked
   node-mark-rule k =
       reworded
-      (and-means (itself (holds b k)) (not-means (lane-fails (λ j. denied (passed-in-means k j)) 0 lanes)))
+      (and-means (itself (holds b k)) (not-means (lane-fails (λ j. denied (passed-over-in-lane-means k j)) 0 lanes)))
       (λ h. (h .0, λ j u e m o n. h .1 j (omega arith) (omega arith) (e, m, (o, n))))
       (λ h. (h .0, λ j l u s. h .1 j (omega arith) (s .0) (s .1) (s .2 .0) (s .2 .1)))
 

@@ -11,7 +11,7 @@ use native.Mathlib.Omega.{arith}
 use borrow.Author.Tests.{eq-eqb, ne-eqb}
 use Rattle.rules.specs.Tests.{addIf, placed}
 use Rattle.rules.specs.HallLine.{Band}
-use Rattle.rules.specs.NodesLanesEdges.{Node, Edge, edgeOf, lanes, isLevel, takesPart, laneOf, edgesFrom, neighbours, edgesOf, levelAt, standsAt, isEnd, isEndOfSome, endsStand, onlyEndsStand, nodeOf, withNode}
+use Rattle.rules.specs.NodesLanesEdges.{Node, Edge, edgeOf, lanes, isLevel, takesPart, laneOf, edgesFrom, edgesAlong, edgesIn, levelAt, standsAt, isEnd, isEndOfSome, endsStand, onlyEndsStand, nodeOf, withNode}
 use Rattle.rules.proofs.Tests.{Means, reworded, denied, some-or-none, in-placed, placed-ascends, and-means, or-means, lt-means, le-means, eq-means, In, Some, Each, each-cons, any-means, all-means, in-made, Ascends, ascends-lower, ascends-from}
 
 -- a level is 1 to 8
@@ -127,13 +127,13 @@ edges-join e x (y ∷ ys) a = (
   λ j. ⊎-map (λ p. p) (edges-join e y ys (a .1) .1) (first-or-later e x y ys a j),
 )
 
-neighbours-join : (c : ℕ) (e : Edge) (ks : List ℕ) → Ascends (λ k. k) c ks → In e (neighbours ks) ↔ Joins e ks
-neighbours-join c e [] a = (λ i. absurd i, λ j. j .from-in)
-neighbours-join c e (k ∷ ks) a = edges-join e k ks (a .1)
+edges-along-join : (c : ℕ) (e : Edge) (ks : List ℕ) → Ascends (λ k. k) c ks → In e (edgesAlong ks) ↔ Joins e ks
+edges-along-join c e [] a = (λ i. absurd i, λ j. j .from-in)
+edges-along-join c e (k ∷ ks) a = edges-join e k ks (a .1)
 
 -- an edge of a lane joins two nodes next to each other in that lane
-pub edge-rule : (i c : ℕ) (e : Edge) (ns : List Node) → Asc c ns → In e (edgesOf i ns) ↔ Joins e (laneOf i ns)
-edge-rule i c e ns a = neighbours-join c e (laneOf i ns) (lane-ascends i c ns a)
+pub edge-rule : (i c : ℕ) (e : Edge) (ns : List Node) → Asc c ns → In e (edgesIn i ns) ↔ Joins e (laneOf i ns)
+edge-rule i c e ns a = edges-along-join c e (laneOf i ns) (lane-ascends i c ns a)
 
 -- the level of the node at a key ..
 pub level-there : (c : ℕ) (ns : List Node) → Asc c ns → Each (λ n. levelAt (n .key) ns ≡ n .level) ns

@@ -10,7 +10,7 @@ use native.Mathlib.Omega.{arith}
 use lib.Dec.{eqb}
 use Rattle.rules.specs.Tests.{_and_, keep}
 use Rattle.rules.specs.HallLine.{Band, highestKey}
-use Rattle.rules.specs.NodesLanesEdges.{Node, nodeOf, Edge, edgeOf, edgesOf, lanes}
+use Rattle.rules.specs.NodesLanesEdges.{Node, nodeOf, Edge, edgeOf, edgesIn, lanes}
 use Rattle.rules.specs.Profile.{Profile}
 use Rattle.rules.specs.Marks.{edgeMarked, nodeMarked}
 use Rattle.rules.specs.Reach.{present, presentBoth, madeOrDropped, Stretch, nearestBefore, nearestAfter, stretchOf, liesIn, strictlyInside, edgeReached, keyReached, edgeMarkStands, nodeMarkStands, losesInLane, losesOnNode, keepsMarks, reachesOnlyStretches}
@@ -157,9 +157,9 @@ module _ (both changed : List Node) where
 -- ---- which marks stand
 
 module _ (ns : List Node) (b : Band) where
-  pub edge-mark-stands-means : (i : ℕ) (e : Edge) → Means (edgeMarkStands ns b i e) (In e (edgesOf i ns) × (edgeMarked ns b i e ≡ true))
+  pub edge-mark-stands-means : (i : ℕ) (e : Edge) → Means (edgeMarkStands ns b i e) (In e (edgesIn i ns) × (edgeMarked ns b i e ≡ true))
   unfolding edgeMarkStands
-  edge-mark-stands-means i e = and-means (find-means same (edgesOf i ns)) (itself (edgeMarked ns b i e))
+  edge-mark-stands-means i e = and-means (find-means same (edgesIn i ns)) (itself (edgeMarked ns b i e))
     where
       same : (f : Edge) → Means (eqb (f .from) (e .from) and eqb (f .to) (e .to)) (f ≡ e)
       same f =
@@ -181,8 +181,8 @@ module _ (both changed before after : List Node) (b : Band) where
       Each
       (λ e. (Some (λ n. LiesIn e (stretchOf both n)) changed → ⊥)
       → edgeMarked before b i e ≡ true
-      → In e (edgesOf i after) × (edgeMarked after b i e ≡ true))
-      (edgesOf i before)
+      → In e (edgesIn i after) × (edgeMarked after b i e ≡ true))
+      (edgesIn i before)
 
   -- and so does each mark on a node that is not reached
   abbrev pub KeepsOnNodes : Type 0
@@ -199,7 +199,7 @@ module _ (both changed before after : List Node) (b : Band) where
       any-fails
       (λ e. then-fails (not-means (denied (edge-reached-means both changed e)))
       (implies-fails (itself (edgeMarked before b i e)) (edge-mark-stands-means after b i e)))
-      (edgesOf i before)
+      (edgesIn i before)
 
   pub loses-on-node-fails : Fails (losesOnNode both changed before after b) KeepsOnNodes
   unfolding losesOnNode

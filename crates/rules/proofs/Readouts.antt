@@ -11,11 +11,11 @@ use native.Mathlib.Omega.{arith}
 use lib.Dec.{ltb}
 use lib.ListN.{replicate}
 use Rattle.rules.specs.Tests.{keep, firstOf}
-use Rattle.rules.specs.NodesLanesEdges.{edgeOf, laneOf, edgesOf}
+use Rattle.rules.specs.NodesLanesEdges.{edgeOf, laneOf, edgesIn}
 use Rattle.rules.specs.Profile.{Profile}
 use Rattle.rules.specs.Marks.{edgeMarked, nodeMarked, markedOnEdge, markedOnNode}
 use Rattle.rules.specs.Flags.{flagAt}
-use Rattle.rules.specs.Readouts.{readOf, bandRead, nextIn, edgeRead, nodeRead}
+use Rattle.rules.specs.Readouts.{bandReadOf, bandRead, nextIn, edgeRead, nodeRead}
 use Rattle.rules.proofs.Tests.{lt-means, at-most-or-above, In, Some, Each, in-kept, first-none, Ascends, ascends-keep, first-least}
 use Rattle.rules.proofs.NodesLanesEdges.{Asc, lane-ascends, edge-rule, level-there}
 use Rattle.rules.proofs.Profile.{NumbersAsc, numbered, numbered-none}
@@ -26,14 +26,14 @@ use Rattle.rules.proofs.Flags.{flag-set-where-in, flags-of-none}
 
 module _ (p : Profile) where
   -- scope, ends and closed ends of the live band ..
-  pub band-read : (c : ℕ) → NumbersAsc c (p .bands) → Each (λ b. bandRead p (b .number) ≡ readOf (some b)) (p .bands)
+  pub band-read : (c : ℕ) → NumbersAsc c (p .bands) → Each (λ b. bandRead p (b .number) ≡ bandReadOf (some b)) (p .bands)
   unfolding bandRead
-  band-read c a b i = ap readOf (numbered c (p .bands) a b i)
+  band-read c a b i = ap bandReadOf (numbered c (p .bands) a b i)
 
   -- .. and zeros where the number is not live
-  pub no-band-read : (n : ℕ) → Each (λ b. b .number ≡ n → ⊥) (p .bands) → bandRead p n ≡ readOf none
+  pub no-band-read : (n : ℕ) → Each (λ b. b .number ≡ n → ⊥) (p .bands) → bandRead p n ≡ bandReadOf none
   unfolding bandRead
-  no-band-read n h = ap readOf (numbered-none n (p .bands) .1 h)
+  no-band-read n h = ap bandReadOf (numbered-none n (p .bands) .1 h)
 
 -- ---- the next node in a lane
 
@@ -69,7 +69,7 @@ module _ (p : Profile) (k i : ℕ) where
     next-some = next-above k (laneOf i (p .nodes)) c (lane-ascends i c (p .nodes) a) y
 
     -- from a node of the lane the next one is where the lane's edge leads
-    pub next-by-edge : In k (laneOf i (p .nodes)) → (nextIn p k i ≡ some y) ↔ In (edgeOf k y) (edgesOf i (p .nodes))
+    pub next-by-edge : In k (laneOf i (p .nodes)) → (nextIn p k i ≡ some y) ↔ In (edgeOf k y) (edgesIn i (p .nodes))
     next-by-edge j =
         let e = edge-rule i c (edgeOf k y) (p .nodes) a in (
           λ n. let h = next-some .0 n in e .1 (record { from-in = j; to-in = h .0; upward = h .1; none-between = h .2 }),

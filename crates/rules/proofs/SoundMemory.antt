@@ -13,7 +13,7 @@ use Rattle.rules.specs.SoundMemory.{numbersAscend, bandsRight, keysAscen
 use Rattle.rules.proofs.Tests.{Means, reworded, and-means, and3-means, le-means, eq-means, Some, Each, all-means}
 use Rattle.rules.proofs.NodesLanesEdges.{Asc, Level, NodeAt, EndOf, is-level-means, ends-stand-means, only-ends-stand-means}
 use Rattle.rules.proofs.Profile.{NumbersAsc}
-use Rattle.rules.proofs.BoxSaysNo.{in-range-means, BandRight, band-fault-zero}
+use Rattle.rules.proofs.BoxSaysNo.{room-in-range-means, BandRight, band-fault-zero}
 
 pub numbers-ascend-means : (c : ℕ) (bs : List Band) → Means (numbersAscend c bs) (NumbersAsc c bs)
 numbers-ascend-means c [] = record { fact = λ e. tt; test = λ a. refl }
@@ -70,6 +70,6 @@ pub fits-means : (room : Room) (p : Profile) → Means (fits room p) (Fitting ro
 unfolding fits
 fits-means room p =
     reworded
-    (and3-means (in-range-means room) (le-means (length (p .nodes)) (room .nodes)) (le-means (marksInUse p) (room .marks)))
+    (and3-means (room-in-range-means room) (le-means (length (p .nodes)) (room .nodes)) (le-means (marksInUse p) (room .marks)))
     (λ h. record { node-room = h .0 .0; mark-room = h .0 .1; nodes-fit = h .1; marks-fit = h .2 })
     (λ f. ((f .node-room, f .mark-room), f .nodes-fit, f .marks-fit))

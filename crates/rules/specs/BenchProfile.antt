@@ -6,7 +6,7 @@ use mathlib.Core.List.{List, [], _∷_}
 use Rattle.rules.specs.Tests.{_and_}
 use Rattle.rules.specs.HallLine.{Band, bandOf}
 use Rattle.rules.specs.Profile.{Profile, emptyProfile}
-use Rattle.rules.specs.BoxSaysNo.{Room, roomOf, inRange, Change, insertOf, removeOf}
+use Rattle.rules.specs.BoxSaysNo.{Room, roomOf, roomInRange, Change, insertOutcome, removeOutcome}
 use Rattle.rules.specs.SoundMemory.{standing, fits}
 
 -- bands by how their ends are written: [l,h], (l,h], [l,h) and (l,h)
@@ -33,8 +33,8 @@ isSound room p = standing p and fits room p
 
 -- what the call comes to in a memory of that room
 abbrev pub callOf : Room → Profile → Call → Change
-callOf room p (insert b l h) = insertOf (inRange room) (isSound room p) room p b l h
-callOf room p (remove n s) = removeOf (inRange room) (isSound room p) room p n s
+callOf room p (insert b l h) = insertOutcome (roomInRange room) (isSound room p) room p b l h
+callOf room p (remove n s) = removeOutcome (roomInRange room) (isSound room p) room p n s
 
 -- the profile after some calls, one after the other
 abbrev pub lived : Room → Profile → List Call → Profile
@@ -57,8 +57,8 @@ bench =
     ∷ [])
 
 -- P9: bands [10,50], [20,20], [30,30], [40,40], levels 10:2, 20:1, 30:1, 40:2, 50:1. [40,40] comes before [30,30], so that the way fits too
-abbrev pub nine : Room → Profile
-nine room =
+abbrev pub p9 : Room → Profile
+p9 room =
     lived room emptyProfile
     (insert (closed 1 0 10 50) 2 1
     ∷ insert (closed 2 0 20 20) 1 1
@@ -66,7 +66,7 @@ nine room =
     ∷ insert (closed 3 0 30 30) 1 1
     ∷ [])
 
--- two tall neighbours with one almost as tall between them
+-- two tall edgesAlong with one almost as tall between them
 abbrev pub tall : Profile
 tall = lived wide emptyProfile (insert (closed 1 0 10 50) 8 8 ∷ insert (closed 2 0 20 20) 7 7 ∷ [])
 

@@ -8,16 +8,16 @@ use lib.Dec.{eqb}
 use lib.ListN.{length}
 use Rattle.rules.specs.Tests.{_and_, addIf}
 use Rattle.rules.specs.HallLine.{Band, bandOf, holds, house}
-use Rattle.rules.specs.NodesLanesEdges.{Node, nodeOf, Edge, edgeOf, edgesOf}
+use Rattle.rules.specs.NodesLanesEdges.{Node, nodeOf, Edge, edgeOf, edgesIn}
 use Rattle.rules.specs.Profile.{Profile, profileOf, emptyProfile}
 use Rattle.rules.specs.Marks.{marksOf, marksInUse, numbersWhere}
 use Rattle.rules.specs.Flags.{flagsOf}
 use Rattle.rules.specs.Search.{stabOf, stepsOf}
-use Rattle.rules.specs.Readouts.{BandRead, readOf, bandRead, edgeRead, nodeRead, roomRead}
-use Rattle.rules.specs.BoxSaysNo.{Room, roomOf, emptyRefusal, stabRefusal, stabAnswer, bandRefusal, edgeRefusal, nodeRefusal, roomRefusal}
+use Rattle.rules.specs.Readouts.{BandRead, bandReadOf, bandRead, edgeRead, nodeRead, roomRead}
+use Rattle.rules.specs.BoxSaysNo.{Room, roomOf, emptyRefusal, stabRefusal, stabAnswer, bandReadRefusal, edgeReadRefusal, nodeReadRefusal, roomReadRefusal}
 use Rattle.rules.specs.BenchCard.{scanOf}
 use Rattle.rules.specs.Reach.{reachesOnlyStretches}
-use Rattle.rules.specs.BenchProfile.{closed, openLow, openHigh, open′, Call, insert, remove, isSound, callOf, wide, bench, nine, tall, twins, beside, lifted}
+use Rattle.rules.specs.BenchProfile.{closed, openLow, openHigh, open′, Call, insert, remove, isSound, callOf, wide, bench, p9, tall, twins, beside, lifted}
 
 -- a row: a question and the answer expected
 pub data Row : Type 0 where
@@ -67,7 +67,7 @@ sameBands [] [] = true
 sameBands [] (y ∷ ys) = false
 sameBands (x ∷ xs) [] = false
 sameBands (x ∷ xs) (y ∷ ys) =
-    eqb (x .number) (y .number) and sameRead (readOf (some x)) (readOf (some y)) and sameBands xs ys
+    eqb (x .number) (y .number) and sameRead (bandReadOf (some x)) (bandReadOf (some y)) and sameBands xs ys
 
 abbrev pub sameNodes : List Node → List Node → Bool
 sameNodes ms ns = sameNumbers (map (λ n. n .key) ms) (map (λ n. n .key) ns) and sameNumbers (map (λ n. n .level) ms) (map (λ n. n .level) ns)
@@ -99,7 +99,7 @@ callNumber (remove n s) = n
 abbrev pub rowRight : Row → Bool
 rowRight (is room p bs ns m) = profileIs room p bs ns m
 rowRight (marks p each all) = sameNumbers (map (marksOf (p .nodes)) (p .bands)) each and eqb (roomRead p .marks) all
-rowRight (lane p i es) = sameEdges (edgesOf i (p .nodes)) es
+rowRight (lane p i es) = sameEdges (edgesIn i (p .nodes)) es
 rowRight (stab p k ns l) =
     sameNumbers (stabOf p k .flags) (flagsOf ns)
     and eqb (stabOf p k .count) (length ns)
@@ -109,7 +109,7 @@ rowRight (stab p k ns l) =
     and sameNumbers (numbersWhere (λ b. holds b k) (p .bands)) ns
 rowRight (edge p k i y ns) = sameKey (edgeRead p k i .next) y and sameNumbers (edgeRead p k i .flags) (flagsOf ns)
 rowRight (node p k l ns) = eqb (nodeRead p k .level) l and sameNumbers (nodeRead p k .flags) (flagsOf ns)
-rowRight (band p n b) = sameRead (bandRead p n) (readOf b)
+rowRight (band p n b) = sameRead (bandRead p n) (bandReadOf b)
 rowRight (noStab p k number) =
     eqb (stabAnswer true p k .refusal) number
     and sameNumbers (stabAnswer true p k .answer .flags) (flagsOf [])
@@ -160,15 +160,15 @@ benchRows =
     (nodeOf 100 1 ∷ nodeOf 250 1 ∷ nodeOf 400 1 ∷ nodeOf 900 2 ∷ [])
     14
     -- P9: 8 marks; removing [40,40] needs 9, so with room for 8 it is refused
-    ∷ is (roomOf 5 8) (nine (roomOf 5 8))
+    ∷ is (roomOf 5 8) (p9 (roomOf 5 8))
     (closed 1 0 10 50 ∷ closed 2 0 20 20 ∷ closed 3 0 30 30 ∷ closed 4 0 40 40 ∷ [])
     (nodeOf 10 2 ∷ nodeOf 20 1 ∷ nodeOf 30 1 ∷ nodeOf 40 2 ∷ nodeOf 50 1 ∷ [])
     8
-    ∷ accepted (roomOf 5 9) (nine wide) (remove 4 0)
+    ∷ accepted (roomOf 5 9) (p9 wide) (remove 4 0)
     (closed 1 0 10 50 ∷ closed 2 0 20 20 ∷ closed 3 0 30 30 ∷ [])
     (nodeOf 10 2 ∷ nodeOf 20 1 ∷ nodeOf 30 1 ∷ nodeOf 50 1 ∷ [])
     9
-    ∷ refused (roomOf 5 8) (nine (roomOf 5 8)) (remove 4 0) 12
+    ∷ refused (roomOf 5 8) (p9 (roomOf 5 8)) (remove 4 0) 12
     -- P10: 2,097,151 is taken, as a band's end and by a stab; 2,097,152 is refused by 4 in both
     ∷ accepted wide emptyProfile (insert (closed 0 63 2097000 2097151) 1 1)
     (closed 0 63 2097000 2097151 ∷ [])
@@ -204,7 +204,7 @@ errorRows =
     (nodeOf 100 1 ∷ nodeOf 200 3 ∷ nodeOf 250 1 ∷ nodeOf 300 2 ∷ nodeOf 400 1 ∷ nodeOf 900 2 ∷ [])
     12
     -- refusing 12 in the middle of a change that fits at its end: from 9 marks to 8 with room for 9
-    ∷ accepted (roomOf 5 9) (callOf wide (nine wide) (remove 4 0) .profile) (insert (closed 4 0 40 40) 2 2)
+    ∷ accepted (roomOf 5 9) (callOf wide (p9 wide) (remove 4 0) .profile) (insert (closed 4 0 40 40) 2 2)
     (closed 1 0 10 50 ∷ closed 2 0 20 20 ∷ closed 3 0 30 30 ∷ closed 4 0 40 40 ∷ [])
     (nodeOf 10 2 ∷ nodeOf 20 1 ∷ nodeOf 30 1 ∷ nodeOf 40 2 ∷ nodeOf 50 1 ∷ [])
     8
@@ -255,22 +255,22 @@ refusalRows =
     ∷ refused wide bench (remove 6 1) 9
     ∷ refused wide bench (remove 3 1) 10
     ∷ gives (stabRefusal false 2097152) 1
-    ∷ gives (bandRefusal false bench 1024) 1
-    ∷ gives (bandRefusal true bench 1024) 3
-    ∷ gives (bandRefusal true bench 6) 9
-    ∷ gives (bandRefusal true bench 5) 0
-    ∷ gives (edgeRefusal false bench 2097152 0) 1
-    ∷ gives (edgeRefusal true bench 2097152 8) 4
-    ∷ gives (edgeRefusal true bench 150 0) 13
-    ∷ gives (edgeRefusal true bench 200 3) 13
-    ∷ gives (edgeRefusal true tall 10 8) 13
-    ∷ gives (edgeRefusal true bench 200 2) 0
-    ∷ gives (nodeRefusal false bench 2097152) 1
-    ∷ gives (nodeRefusal true bench 2097152) 4
-    ∷ gives (nodeRefusal true bench 150) 13
-    ∷ gives (nodeRefusal true bench 250) 0
-    ∷ gives (roomRefusal false) 1
-    ∷ gives (roomRefusal true) 0
+    ∷ gives (bandReadRefusal false bench 1024) 1
+    ∷ gives (bandReadRefusal true bench 1024) 3
+    ∷ gives (bandReadRefusal true bench 6) 9
+    ∷ gives (bandReadRefusal true bench 5) 0
+    ∷ gives (edgeReadRefusal false bench 2097152 0) 1
+    ∷ gives (edgeReadRefusal true bench 2097152 8) 4
+    ∷ gives (edgeReadRefusal true bench 150 0) 13
+    ∷ gives (edgeReadRefusal true bench 200 3) 13
+    ∷ gives (edgeReadRefusal true tall 10 8) 13
+    ∷ gives (edgeReadRefusal true bench 200 2) 0
+    ∷ gives (nodeReadRefusal false bench 2097152) 1
+    ∷ gives (nodeReadRefusal true bench 2097152) 4
+    ∷ gives (nodeReadRefusal true bench 150) 13
+    ∷ gives (nodeReadRefusal true bench 250) 0
+    ∷ gives (roomReadRefusal false) 1
+    ∷ gives (roomReadRefusal true) 0
     ∷ []
 
 -- The bench card: the key first, with place 0; each record by 2 to 6; a number that stands twice by 8, at the later place.

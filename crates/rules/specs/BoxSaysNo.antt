@@ -8,14 +8,14 @@ use mathlib.Core.Option.{none}
 use lib.Dec.{leb, ltb, eqb}
 use lib.ListN.{length, replicate}
 use Rattle.rules.specs.Tests.{_and_, _or_, any}
-use Rattle.rules.specs.HallLine.{Band, highestKey, highestNumber, house, holdsSome, withinScope}
+use Rattle.rules.specs.HallLine.{Band, highestKey, highestBandNumber, house, holdsWholeKey, withinScope}
 use Rattle.rules.specs.NodesLanesEdges.{isLevel, standsAt, levelAt}
 use Rattle.rules.specs.Profile.{Profile, hasNumber, isLive}
 use Rattle.rules.specs.Marks.{marksInUse}
 use Rattle.rules.specs.Flags.{flagWordCount}
 use Rattle.rules.specs.Search.{Stab, stabOf}
 use Rattle.rules.specs.Changes.{inserted, removed}
-use Rattle.rules.specs.Readouts.{BandRead, readOf, bandRead, EdgeRead, edgeRead, NodeRead, nodeRead, RoomRead, roomRead}
+use Rattle.rules.specs.Readouts.{BandRead, bandReadOf, bandRead, EdgeRead, edgeRead, NodeRead, nodeRead, RoomRead, roomRead}
 
 -- the room of a memory: how many nodes and how many marks it can take
 pub record Room : Type 0 where
@@ -26,85 +26,85 @@ abbrev pub roomOf : ℕ → ℕ → Room
 roomOf n m = record { nodes = n; marks = m }
 
 -- room for 1 to 2,048 nodes and 1 to 16,384 marks
-unfoldable pub inRange : Room → Bool
-inRange r = leb 1 (r .nodes) and leb (r .nodes) 2048 and leb 1 (r .marks) and leb (r .marks) 16384
+unfoldable pub roomInRange : Room → Bool
+roomInRange r = leb 1 (r .nodes) and leb (r .nodes) 2048 and leb 1 (r .marks) and leb (r .marks) 16384
 
 -- a line of the table: its number, and whether it applies
-pub record Line : Type 0 where
+pub record TableLine : Type 0 where
   pub refusal : ℕ
   pub applies : Bool
 
-abbrev pub line : ℕ → Bool → Line
+abbrev pub line : ℕ → Bool → TableLine
 line n c = record { refusal = n; applies = c }
 
 -- of lines in ascending order the lowest number that applies is given; 0 where none does
-abbrev pub lowest : List Line → ℕ
+abbrev pub lowest : List TableLine → ℕ
 lowest [] = 0
 lowest (l ∷ ls) = cond (l .applies) (l .refusal) (lowest ls)
 
 -- 1: sizes are out of range; for insert and remove, also memory not sound
-abbrev pub sizesWrong : Bool → Line
+abbrev pub sizesWrong : Bool → TableLine
 sizesWrong sizesRight = line 1 (not sizesRight)
 
-abbrev pub notSound : Bool → Bool → Line
+abbrev pub notSound : Bool → Bool → TableLine
 notSound sizesRight sound = line 1 (not (sizesRight and sound))
 
 -- 2: scope above 64
-abbrev pub scopeAbove : ℕ → Line
+abbrev pub scopeAbove : ℕ → TableLine
 scopeAbove scope = line 2 (ltb house scope)
 
 -- 3: band number above 1,023
-abbrev pub numberAbove : ℕ → Line
-numberAbove number = line 3 (ltb highestNumber number)
+abbrev pub numberAbove : ℕ → TableLine
+numberAbove number = line 3 (ltb highestBandNumber number)
 
 -- 4: a key above 2,097,151
-abbrev pub keyAbove : ℕ → Line
+abbrev pub keyAbove : ℕ → TableLine
 keyAbove k = line 4 (ltb highestKey k)
 
-abbrev pub endAbove : Band → Line
+abbrev pub endAbove : Band → TableLine
 endAbove b = line 4 (ltb highestKey (b .low) or ltb highestKey (b .high))
 
 -- 5: band holds no whole key
-abbrev pub holdsNone : Band → Line
-holdsNone b = line 5 (not (holdsSome b))
+abbrev pub holdsNone : Band → TableLine
+holdsNone b = line 5 (not (holdsWholeKey b))
 
 -- 6: scope is a machine and an end is not among its keys
-abbrev pub endElsewhere : Band → Line
+abbrev pub endElsewhere : Band → TableLine
 endElsewhere b = line 6 (not (withinScope b))
 
 -- 7: a given level is not 1 to 8, even if it would not be used
-abbrev pub levelWrong : ℕ → ℕ → Line
+abbrev pub levelWrong : ℕ → ℕ → TableLine
 levelWrong lowLevel highLevel = line 7 (not (isLevel lowLevel and isLevel highLevel))
 
 -- 8: insert: number is live
-abbrev pub numberLive : Profile → ℕ → Line
+abbrev pub numberLive : Profile → ℕ → TableLine
 numberLive p number = line 8 (isLive number (p .bands))
 
 -- 9: remove or band readout: number is not live
-abbrev pub numberNotLive : Profile → ℕ → Line
+abbrev pub numberNotLive : Profile → ℕ → TableLine
 numberNotLive p number = line 9 (not (isLive number (p .bands)))
 
 -- 10: remove: the band's scope is another
-abbrev pub scopeOther : Profile → ℕ → ℕ → Line
+abbrev pub scopeOther : Profile → ℕ → ℕ → TableLine
 scopeOther p number scope = line 10 (any (λ b. hasNumber number b and not (eqb (b .scope) scope)) (p .bands))
 
 -- 11: nodes after the call would exceed the node room
-abbrev pub nodesExceed : Room → Profile → Line
+abbrev pub nodesExceed : Room → Profile → TableLine
 nodesExceed room after = line 11 (ltb (room .nodes) (length (after .nodes)))
 
 -- 12: marks that the rule gives after the call would exceed the mark room
-abbrev pub marksExceed : Room → Profile → Line
+abbrev pub marksExceed : Room → Profile → TableLine
 marksExceed room after = line 12 (ltb (room .marks) (marksInUse after))
 
 -- 13: edge or node readout: no node at the key, or it has no such lane
-abbrev pub noNode : Profile → ℕ → Line
+abbrev pub noNode : Profile → ℕ → TableLine
 noNode p k = line 13 (not (standsAt k (p .nodes)))
 
-abbrev pub noLane : Profile → ℕ → ℕ → Line
+abbrev pub noLane : Profile → ℕ → ℕ → TableLine
 noLane p k i = line 13 (not (ltb i (levelAt k (p .nodes))))
 
 -- the faults of a band by itself: 2 to 6
-abbrev pub bandLines : Band → List Line
+abbrev pub bandLines : Band → List TableLine
 bandLines b = scopeAbove (b .scope) ∷ numberAbove (b .number) ∷ endAbove b ∷ holdsNone b ∷ endElsewhere b ∷ []
 
 -- 4, for a key asked for
@@ -120,14 +120,14 @@ unfoldable pub faultOf : Band → ℕ → ℕ → ℕ
 faultOf b lowLevel highLevel = lowest (bandLines b ++ levelWrong lowLevel highLevel ∷ [])
 
 -- an empty profile is refused only by 1 (sizes), whatever the memory held
-abbrev pub emptyLines : Bool → List Line
+abbrev pub emptyLines : Bool → List TableLine
 emptyLines sizesRight = sizesWrong sizesRight ∷ []
 
 unfoldable pub emptyRefusal : Bool → ℕ
 emptyRefusal sizesRight = lowest (emptyLines sizesRight)
 
 -- insert: 1 to 8, 11, 12; nothing but the state after the call decides 11 and 12
-abbrev pub insertLines : Bool → Bool → Room → Profile → Band → ℕ → ℕ → List Line
+abbrev pub insertLines : Bool → Bool → Room → Profile → Band → ℕ → ℕ → List TableLine
 insertLines sizesRight sound room p b lowLevel highLevel =
     notSound sizesRight sound
     ∷ bandLines b
@@ -142,7 +142,7 @@ insertRefusal sizesRight sound room p b lowLevel highLevel =
     lowest (insertLines sizesRight sound room p b lowLevel highLevel)
 
 -- remove: 1, 2, 3, 9, 10, 12; nodes never grow, so 11 is never given
-abbrev pub removeLines : Bool → Bool → Room → Profile → ℕ → ℕ → List Line
+abbrev pub removeLines : Bool → Bool → Room → Profile → ℕ → ℕ → List TableLine
 removeLines sizesRight sound room p number scope =
     notSound sizesRight sound
     ∷ scopeAbove scope
@@ -164,48 +164,48 @@ pub record Change : Type 0 where
 abbrev pub changed : ℕ → Profile → Profile → Change
 changed refusal before after = record { refusal = refusal; profile = cond (eqb refusal 0) after before }
 
-unfoldable pub insertOf : Bool → Bool → Room → Profile → Band → ℕ → ℕ → Change
-insertOf sizesRight sound room p b lowLevel highLevel =
+unfoldable pub insertOutcome : Bool → Bool → Room → Profile → Band → ℕ → ℕ → Change
+insertOutcome sizesRight sound room p b lowLevel highLevel =
     changed (insertRefusal sizesRight sound room p b lowLevel highLevel) p (inserted p b lowLevel highLevel)
 
-unfoldable pub removeOf : Bool → Bool → Room → Profile → ℕ → ℕ → Change
-removeOf sizesRight sound room p number scope =
+unfoldable pub removeOutcome : Bool → Bool → Room → Profile → ℕ → ℕ → Change
+removeOutcome sizesRight sound room p number scope =
     changed (removeRefusal sizesRight sound room p number scope) p (removed p number)
 
 -- stab: 1 (sizes), 4
-abbrev pub stabLines : Bool → ℕ → List Line
+abbrev pub stabLines : Bool → ℕ → List TableLine
 stabLines sizesRight k = sizesWrong sizesRight ∷ keyAbove k ∷ []
 
 unfoldable pub stabRefusal : Bool → ℕ → ℕ
 stabRefusal sizesRight k = lowest (stabLines sizesRight k)
 
 -- band readout: 1 (sizes), 3, 9
-abbrev pub bandReadLines : Bool → Profile → ℕ → List Line
+abbrev pub bandReadLines : Bool → Profile → ℕ → List TableLine
 bandReadLines sizesRight p number = sizesWrong sizesRight ∷ numberAbove number ∷ numberNotLive p number ∷ []
 
-unfoldable pub bandRefusal : Bool → Profile → ℕ → ℕ
-bandRefusal sizesRight p number = lowest (bandReadLines sizesRight p number)
+unfoldable pub bandReadRefusal : Bool → Profile → ℕ → ℕ
+bandReadRefusal sizesRight p number = lowest (bandReadLines sizesRight p number)
 
 -- edge readout: 1 (sizes), 4, 13
-abbrev pub edgeReadLines : Bool → Profile → ℕ → ℕ → List Line
+abbrev pub edgeReadLines : Bool → Profile → ℕ → ℕ → List TableLine
 edgeReadLines sizesRight p k i = sizesWrong sizesRight ∷ keyAbove k ∷ noNode p k ∷ noLane p k i ∷ []
 
-unfoldable pub edgeRefusal : Bool → Profile → ℕ → ℕ → ℕ
-edgeRefusal sizesRight p k i = lowest (edgeReadLines sizesRight p k i)
+unfoldable pub edgeReadRefusal : Bool → Profile → ℕ → ℕ → ℕ
+edgeReadRefusal sizesRight p k i = lowest (edgeReadLines sizesRight p k i)
 
 -- node readout: 1 (sizes), 4, 13
-abbrev pub nodeReadLines : Bool → Profile → ℕ → List Line
+abbrev pub nodeReadLines : Bool → Profile → ℕ → List TableLine
 nodeReadLines sizesRight p k = sizesWrong sizesRight ∷ keyAbove k ∷ noNode p k ∷ []
 
-unfoldable pub nodeRefusal : Bool → Profile → ℕ → ℕ
-nodeRefusal sizesRight p k = lowest (nodeReadLines sizesRight p k)
+unfoldable pub nodeReadRefusal : Bool → Profile → ℕ → ℕ
+nodeReadRefusal sizesRight p k = lowest (nodeReadLines sizesRight p k)
 
 -- room readout: 1 (sizes)
-abbrev pub roomLines : Bool → List Line
-roomLines sizesRight = sizesWrong sizesRight ∷ []
+abbrev pub roomReadLines : Bool → List TableLine
+roomReadLines sizesRight = sizesWrong sizesRight ∷ []
 
-unfoldable pub roomRefusal : Bool → ℕ
-roomRefusal sizesRight = lowest (roomLines sizesRight)
+unfoldable pub roomReadRefusal : Bool → ℕ
+roomReadRefusal sizesRight = lowest (roomReadLines sizesRight)
 
 -- a stab or a readout answers its number, 0 where it is not refused, and what is read
 pub record Answered (A : Type 0) : Type 0 where
@@ -223,16 +223,16 @@ unfoldable pub stabAnswer : Bool → Profile → ℕ → Answered Stab
 stabAnswer sizesRight p k =
     answered (stabRefusal sizesRight k) (record { flags = noFlags; count = 0; met = 0; looks = 0 }) (stabOf p k)
 
-unfoldable pub bandAnswer : Bool → Profile → ℕ → Answered BandRead
-bandAnswer sizesRight p number = answered (bandRefusal sizesRight p number) (readOf none) (bandRead p number)
+unfoldable pub bandReadAnswer : Bool → Profile → ℕ → Answered BandRead
+bandReadAnswer sizesRight p number = answered (bandReadRefusal sizesRight p number) (bandReadOf none) (bandRead p number)
 
-unfoldable pub edgeAnswer : Bool → Profile → ℕ → ℕ → Answered EdgeRead
-edgeAnswer sizesRight p k i =
-    answered (edgeRefusal sizesRight p k i) (record { next = none; flags = noFlags }) (edgeRead p k i)
+unfoldable pub edgeReadAnswer : Bool → Profile → ℕ → ℕ → Answered EdgeRead
+edgeReadAnswer sizesRight p k i =
+    answered (edgeReadRefusal sizesRight p k i) (record { next = none; flags = noFlags }) (edgeRead p k i)
 
-unfoldable pub nodeAnswer : Bool → Profile → ℕ → Answered NodeRead
-nodeAnswer sizesRight p k =
-    answered (nodeRefusal sizesRight p k) (record { level = 0; flags = noFlags }) (nodeRead p k)
+unfoldable pub nodeReadAnswer : Bool → Profile → ℕ → Answered NodeRead
+nodeReadAnswer sizesRight p k =
+    answered (nodeReadRefusal sizesRight p k) (record { level = 0; flags = noFlags }) (nodeRead p k)
 
-unfoldable pub roomAnswer : Bool → Profile → Answered RoomRead
-roomAnswer sizesRight p = answered (roomRefusal sizesRight) (record { nodes = 0; marks = 0 }) (roomRead p)
+unfoldable pub roomReadAnswer : Bool → Profile → Answered RoomRead
+roomReadAnswer sizesRight p = answered (roomReadRefusal sizesRight) (record { nodes = 0; marks = 0 }) (roomRead p)

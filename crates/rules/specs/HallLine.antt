@@ -24,8 +24,8 @@ abbrev pub keysPerMachine : ℕ
 keysPerMachine = 32768
 
 -- the three numbers are in their ranges
-unfoldable pub inRanges : ℕ → ℕ → ℕ → Bool
-inRanges machine sensor reading = ltb machine machines and ltb sensor sensors and ltb reading readings
+unfoldable pub partsInRange : ℕ → ℕ → ℕ → Bool
+partsInRange machine sensor reading = ltb machine machines and ltb sensor sensors and ltb reading readings
 
 -- key = machine x 32,768 + sensor x 1,024 + reading
 unfoldable pub keyOf : ℕ → ℕ → ℕ → ℕ
@@ -40,8 +40,8 @@ unfoldable pub ownKey : ℕ → ℕ → Bool
 ownKey machine k = leb (firstKey machine) k and ltb k (firstKey (machine + 1))
 
 -- band numbers are 0 to 1,023
-abbrev pub highestNumber : ℕ
-highestNumber = 1023
+abbrev pub highestBandNumber : ℕ
+highestBandNumber = 1023
 
 -- the scope of a house band, over any stretch
 abbrev pub house : ℕ
@@ -76,8 +76,8 @@ unfoldable pub firstPast : Band → ℕ
 firstPast b = cond (b .lowClosed) (b .low) (b .low + 1)
 
 -- the band holds at least one whole key: it holds the first past its low end if it holds any
-unfoldable pub holdsSome : Band → Bool
-holdsSome b = holds b (firstPast b)
+unfoldable pub holdsWholeKey : Band → Bool
+holdsWholeKey b = holds b (firstPast b)
 
 -- a house band, or both written ends are among the machine's own keys, open ends too
 unfoldable pub withinScope : Band → Bool

@@ -6,7 +6,7 @@ use mathlib.Core.List.{List, [], _∷_}
 use lib.Dec.{leb, ltb}
 use Rattle.rules.specs.Tests.{_and_, any, countIf, sumOf, someLane, sumLanes, addIf}
 use Rattle.rules.specs.HallLine.{Band, holds}
-use Rattle.rules.specs.NodesLanesEdges.{Node, Edge, edgesOf, lanes}
+use Rattle.rules.specs.NodesLanesEdges.{Node, Edge, edgesIn, lanes}
 use Rattle.rules.specs.Profile.{Profile}
 
 -- an edge from X to Y lies inside a band when low <= X and Y <= high; open or closed plays no part
@@ -18,28 +18,28 @@ unfoldable pub contains : Edge → Edge → Bool
 contains f e = leb (f .from) (e .from) and leb (e .to) (f .to)
 
 -- some edge of lane j both contains e and lies inside the band
-unfoldable pub containedIn : List Node → Band → Edge → ℕ → Bool
-containedIn ns b e j = any (λ f. contains f e and inside f b) (edgesOf j ns)
+unfoldable pub coveredInLane : List Node → Band → Edge → ℕ → Bool
+coveredInLane ns b e j = any (λ f. contains f e and inside f b) (edgesIn j ns)
 
 -- edge mark: the edge of lane i lies inside the band, and no edge of a lane above i both contains it and lies inside the band
 unfoldable pub edgeMarked : List Node → Band → ℕ → Edge → Bool
-edgeMarked ns b i e = inside e b and not (someLane (containedIn ns b e) (suc i) (lanes - suc i))
+edgeMarked ns b i e = inside e b and not (someLane (coveredInLane ns b e) (suc i) (lanes - suc i))
 
 -- the edge passes strictly over the key
 unfoldable pub passesOver : Edge → ℕ → Bool
 passesOver e k = ltb (e .from) k and ltb k (e .to)
 
 -- some edge of lane j passes strictly over the key and lies inside the band
-unfoldable pub passedIn : List Node → Band → ℕ → ℕ → Bool
-passedIn ns b k j = any (λ e. passesOver e k and inside e b) (edgesOf j ns)
+unfoldable pub passedOverInLane : List Node → Band → ℕ → ℕ → Bool
+passedOverInLane ns b k j = any (λ e. passesOver e k and inside e b) (edgesIn j ns)
 
 -- node mark: the band holds the node's key, and no edge that passes strictly over the node lies inside the band
 unfoldable pub nodeMarked : List Node → Band → ℕ → Bool
-nodeMarked ns b k = holds b k and not (someLane (passedIn ns b k) 0 lanes)
+nodeMarked ns b k = holds b k and not (someLane (passedOverInLane ns b k) 0 lanes)
 
 -- how many edges of lane i bear the band's mark
 unfoldable pub edgeMarksIn : List Node → Band → ℕ → ℕ
-edgeMarksIn ns b i = countIf (edgeMarked ns b i) (edgesOf i ns)
+edgeMarksIn ns b i = countIf (edgeMarked ns b i) (edgesIn i ns)
 
 -- all marks of one band: those on edges of all lanes and those on nodes
 unfoldable pub marksOf : List Node → Band → ℕ

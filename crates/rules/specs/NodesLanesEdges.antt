@@ -45,13 +45,13 @@ abbrev pub edgesFrom : ℕ → List ℕ → List Edge
 edgesFrom x [] = []
 edgesFrom x (y ∷ ys) = edgeOf x y ∷ edgesFrom y ys
 
-abbrev pub neighbours : List ℕ → List Edge
-neighbours [] = []
-neighbours (x ∷ xs) = edgesFrom x xs
+abbrev pub edgesAlong : List ℕ → List Edge
+edgesAlong [] = []
+edgesAlong (x ∷ xs) = edgesFrom x xs
 
 -- the edges of lane i
-abbrev pub edgesOf : ℕ → List Node → List Edge
-edgesOf i ns = neighbours (laneOf i ns)
+abbrev pub edgesIn : ℕ → List Node → List Edge
+edgesIn i ns = edgesAlong (laneOf i ns)
 
 -- a node stands at the key
 unfoldable pub standsAt : ℕ → List Node → Bool

@@ -7,7 +7,7 @@ use mathlib.Core.List.{List, [], _∷_, _++_}
 use lib.Dec.{leb, ltb, eqb}
 use Rattle.rules.specs.Tests.{_and_, _or_, any, all, keep, someLane}
 use Rattle.rules.specs.HallLine.{Band, highestKey}
-use Rattle.rules.specs.NodesLanesEdges.{Node, Edge, edgesOf, lanes, standsAt}
+use Rattle.rules.specs.NodesLanesEdges.{Node, Edge, edgesIn, lanes, standsAt}
 use Rattle.rules.specs.Profile.{Profile, hasNumber}
 use Rattle.rules.specs.Marks.{edgeMarked, nodeMarked}
 use Rattle.rules.specs.Search.{stabOf}
@@ -70,7 +70,7 @@ keyReached both changed k = any (λ n. strictlyInside k (stretchOf both n)) chan
 
 -- e is an edge of lane i that bears the band's mark
 unfoldable pub edgeMarkStands : List Node → Band → ℕ → Edge → Bool
-edgeMarkStands ns b i e = any (λ f. eqb (f .from) (e .from) and eqb (f .to) (e .to)) (edgesOf i ns) and edgeMarked ns b i e
+edgeMarkStands ns b i e = any (λ f. eqb (f .from) (e .from) and eqb (f .to) (e .to)) (edgesIn i ns) and edgeMarked ns b i e
 
 -- a node stands at k and bears the band's mark
 unfoldable pub nodeMarkStands : List Node → Band → ℕ → Bool
@@ -81,7 +81,7 @@ unfoldable pub losesInLane : List Node → List Node → List Node → List Node
 losesInLane both changed before after b i =
     any
     (λ e. not (edgeReached both changed e) and edgeMarked before b i e and not (edgeMarkStands after b i e))
-    (edgesOf i before)
+    (edgesIn i before)
 
 -- the band loses a mark, between two node lists, on some node that is not reached
 unfoldable pub losesOnNode : List Node → List Node → List Node → List Node → Band → Bool

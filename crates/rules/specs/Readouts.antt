@@ -22,13 +22,13 @@ pub record BandRead : Type 0 where
   pub highClosed : Bool
 
 -- what is read of a band, and zeros where there is none
-abbrev pub readOf : Option Band → BandRead
-readOf none = record { scope = 0; low = 0; high = 0; lowClosed = false; highClosed = false }
-readOf (some b) =
+abbrev pub bandReadOf : Option Band → BandRead
+bandReadOf none = record { scope = 0; low = 0; high = 0; lowClosed = false; highClosed = false }
+bandReadOf (some b) =
     record { scope = b .scope; low = b .low; high = b .high; lowClosed = b .lowClosed; highClosed = b .highClosed }
 
 unfoldable pub bandRead : Profile → ℕ → BandRead
-bandRead p number = readOf (bandNumbered number (p .bands))
+bandRead p number = bandReadOf (bandNumbered number (p .bands))
 
 -- the key of the node that comes next after k in lane i, or none
 unfoldable pub nextIn : Profile → ℕ → ℕ → Option ℕ

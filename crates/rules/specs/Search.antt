@@ -17,24 +17,24 @@ pub data Here : Type 0 where
   on : ℕ → Here
 
 -- where the search stands, the nodes after that place, and how many nodes it has stepped onto
-pub record Place : Type 0 where
+pub record Spot : Type 0 where
   pub here : Here
   pub ahead : List Node
   pub steps : ℕ
 
-abbrev pub placeOf : Here → List Node → ℕ → Place
-placeOf h ns s = record { here = h; ahead = ns; steps = s }
+abbrev pub spotOf : Here → List Node → ℕ → Spot
+spotOf h ns s = record { here = h; ahead = ns; steps = s }
 
 -- in lane i, step on while the next node is below k; stop when it is absent or not below k
-abbrev pub stopFrom : ℕ → ℕ → Place → List Node → Place
-stopFrom i k at [] = at
-stopFrom i k at (n ∷ ns) =
-    let further : Place = stopFrom i k (placeOf (on (n .key)) ns (at .steps + 1)) ns in
-    let past : Place = stopFrom i k at ns in
+abbrev pub dropAmong : ℕ → ℕ → Spot → List Node → Spot
+dropAmong i k at [] = at
+dropAmong i k at (n ∷ ns) =
+    let further : Spot = dropAmong i k (spotOf (on (n .key)) ns (at .steps + 1)) ns in
+    let past : Spot = dropAmong i k at ns in
     cond (takesPart i n) (cond (ltb (n .key) k) further at) past
 
-unfoldable pub stopIn : ℕ → ℕ → Place → Place
-stopIn i k at = stopFrom i k at (at .ahead)
+unfoldable pub dropIn : ℕ → ℕ → Spot → Spot
+dropIn i k at = dropAmong i k at (at .ahead)
 
 -- on dropping from lane i, with the lane's nodes ahead: the edge's marks, only if the next node is above k;
 -- the header's links and links to nothing carry no marks
@@ -48,19 +48,19 @@ unfoldable pub nodeTakes : Profile → ℕ → List ℕ
 nodeTakes p k = onlyIf (standsAt k (p .nodes)) (markedOnNode p k)
 
 -- what the search takes in the lowest m lanes, each begun where the lane above stopped
-abbrev pub takesFrom : Profile → ℕ → ℕ → Place → List ℕ
+abbrev pub takesFrom : Profile → ℕ → ℕ → Spot → List ℕ
 takesFrom p k zero at = nodeTakes p k
 takesFrom p k (suc i) at =
-    dropTakes p i k (stopIn i k at .here) (laneOf i (stopIn i k at .ahead)) ++ takesFrom p k i (stopIn i k at)
+    dropTakes p i k (dropIn i k at .here) (laneOf i (dropIn i k at .ahead)) ++ takesFrom p k i (dropIn i k at)
 
 -- the nodes stepped onto by the time the lowest m lanes are done
-abbrev pub stepsFrom : ℕ → ℕ → Place → ℕ
+abbrev pub stepsFrom : ℕ → ℕ → Spot → ℕ
 stepsFrom k zero at = at .steps
-stepsFrom k (suc i) at = stepsFrom k i (stopIn i k at)
+stepsFrom k (suc i) at = stepsFrom k i (dropIn i k at)
 
 -- the search starts at the header, before all nodes
-abbrev pub start : Profile → Place
-start p = placeOf header (p .nodes) 0
+abbrev pub start : Profile → Spot
+start p = spotOf header (p .nodes) 0
 
 -- the band numbers of all marks that the search for k takes, in its order
 unfoldable pub taken : Profile → ℕ → List ℕ

@@ -11,7 +11,7 @@ use Rattle.rules.specs.HallLine.{Band}
 use Rattle.rules.specs.NodesLanesEdges.{Node, isLevel, endsStand, onlyEndsStand}
 use Rattle.rules.specs.Profile.{Profile}
 use Rattle.rules.specs.Marks.{marksInUse}
-use Rattle.rules.specs.BoxSaysNo.{Room, inRange, bandFault}
+use Rattle.rules.specs.BoxSaysNo.{Room, roomInRange, bandFault}
 
 -- band numbers ascend strictly, the first at least c
 abbrev pub numbersAscend : ℕ → List Band → Bool
@@ -44,4 +44,4 @@ standing p =
 
 -- nodes and marks, by the rule's own count, are within a room that is in range
 unfoldable pub fits : Room → Profile → Bool
-fits room p = inRange room and leb (length (p .nodes)) (room .nodes) and leb (marksInUse p) (room .marks)
+fits room p = roomInRange room and leb (length (p .nodes)) (room .nodes) and leb (marksInUse p) (room .marks)

@@ -20,11 +20,11 @@ returns-3 c = by-4-low _ (omega arith) (omega arith) (omega arith)
 returns-4 : tie.Need-returns-4
 returns-4 c = by-4-high _ (omega arith) (omega arith) (omega arith) (omega arith)
 
-holds-some-requires : tie.Need-holds-some-requires
-holds-some-requires c κs = search needs
+holds-whole-key-requires : tie.Need-holds-whole-key-requires
+holds-whole-key-requires c κs = search needs
 
 returns-5 : tie.Need-returns-5
-returns-5 c = by-5 _ (omega arith) (sym (c .before .holds-some .ensures) ∙ not-true _ (c .if5 .taken))
+returns-5 c = by-5 _ (omega arith) (sym (c .before .holds-whole-key .ensures) ∙ not-true _ (c .if5 .taken))
 
 within-scope-requires : tie.Need-within-scope-requires
 within-scope-requires c κs = search needs
@@ -32,13 +32,13 @@ within-scope-requires c κs = search needs
 returns-6 : tie.Need-returns-6
 returns-6 c =
     by-6 _ (omega arith)
-    (sym (c .before .before .before .holds-some .ensures) ∙ not-false _ (c .before .before .if5 .left))
+    (sym (c .before .before .before .holds-whole-key .ensures) ∙ not-false _ (c .before .before .if5 .left))
     (sym (c .before .within-scope .ensures) ∙ not-true _ (c .if6 .taken))
 
 returns-7 : tie.Need-returns-7
 returns-7 c =
     by-none _ (omega arith)
-    (sym (c .before .before .before .holds-some .ensures) ∙ not-false _ (c .before .before .if5 .left))
+    (sym (c .before .before .before .holds-whole-key .ensures) ∙ not-false _ (c .before .before .if5 .left))
     (sym (c .before .within-scope .ensures) ∙ not-false _ (c .if6 .left))
 
 pub fault-spec : {M : Type 1} → statement M
@@ -49,7 +49,7 @@ fault-spec =
     returns-2
     returns-3
     returns-4
-    holds-some-requires
+    holds-whole-key-requires
     returns-5
     within-scope-requires
     returns-6
