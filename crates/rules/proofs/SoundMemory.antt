@@ -8,7 +8,8 @@ use Rattle.rules.specs.HallLine.{Band}
 use Rattle.rules.specs.NodesLanesEdges.{Node}
 use Rattle.rules.specs.Profile.{Profile}
 use Rattle.rules.specs.Marks.{marksInUse}
-use Rattle.rules.specs.BoxSaysNo.{Room, bandFault}
+use Rattle.rules.specs.Room.{Room}
+use Rattle.rules.specs.BoxSaysNo.{bandFault}
 use Rattle.rules.specs.SoundMemory.{numbersAscend, bandsRight, keysAscend, levelsRight, standing, fits}
 use Rattle.rules.proofs.Tests.{Means, reworded, and-means, and3-means, le-means, eq-means, Some, Each, all-means}
 use Rattle.rules.proofs.NodesLanesEdges.{Asc, Level, NodeAt, EndOf, is-level-means, ends-stand-means, only-ends-stand-means}

@@ -30,7 +30,7 @@ firstBad seen place (b ∷ bs) =
 
 -- the key is judged by 4 before the records, with place 0
 unfoldable pub cardBad : List Band → ℕ → Bad
-cardBad cards k = cond (eqb (keyFault k) 0) (firstBad [] 1 cards) (bad (keyFault k) 0)
+cardBad records k = cond (eqb (keyFault k) 0) (firstBad [] 1 records) (bad (keyFault k) 0)
 
 -- what the card answers: the first thing wrong, the flags and the count
 pub record Scan : Type 0 where
@@ -45,4 +45,4 @@ scanned w ns = record { refusal = w .refusal; place = w .place; flags = flagsOf 
 
 -- flags and count of the records that hold the key; zero where something is bad
 unfoldable pub scanOf : List Band → ℕ → Scan
-scanOf cards k = scanned (cardBad cards k) (cond (eqb (cardBad cards k .refusal) 0) (numbersWhere (λ b. holds b k) cards) [])
+scanOf records k = scanned (cardBad records k) (cond (eqb (cardBad records k .refusal) 0) (numbersWhere (λ b. holds b k) records) [])

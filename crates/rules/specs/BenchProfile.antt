@@ -1,13 +1,13 @@
 -- "The bench profile": the profiles of the paper's worked examples, each lived through by calls from an empty one.
 -- Assumes nothing.
 use Prim.Native.Nat.{ℕ}
-use mathlib.Core.Bool.{Bool, true, false}
+use mathlib.Core.Bool.{true, false}
 use mathlib.Core.List.{List, [], _∷_}
-use Rattle.rules.specs.Tests.{_and_}
 use Rattle.rules.specs.HallLine.{Band, bandOf}
 use Rattle.rules.specs.Profile.{Profile, emptyProfile}
-use Rattle.rules.specs.BoxSaysNo.{Room, roomOf, roomInRange, Change, insertOutcome, removeOutcome}
-use Rattle.rules.specs.SoundMemory.{standing, fits}
+use Rattle.rules.specs.Room.{Room, roomOf, roomInRange}
+use Rattle.rules.specs.BoxSaysNo.{Change, insertOutcome, removeOutcome}
+use Rattle.rules.specs.SoundMemory.{soundIn}
 
 -- bands by how their ends are written: [l,h], (l,h], [l,h) and (l,h)
 abbrev pub closed : ℕ → ℕ → ℕ → ℕ → Band
@@ -27,14 +27,10 @@ pub data Call : Type 0 where
   insert : Band → ℕ → ℕ → Call
   remove : ℕ → ℕ → Call
 
--- a memory of that room that holds the profile is sound
-abbrev pub isSound : Room → Profile → Bool
-isSound room p = standing p and fits room p
-
 -- what the call comes to in a memory of that room
 abbrev pub callOf : Room → Profile → Call → Change
-callOf room p (insert b l h) = insertOutcome (roomInRange room) (isSound room p) room p b l h
-callOf room p (remove n s) = removeOutcome (roomInRange room) (isSound room p) room p n s
+callOf room p (insert b l h) = insertOutcome (roomInRange room) (soundIn room p) room p b l h
+callOf room p (remove n s) = removeOutcome (roomInRange room) (soundIn room p) room p n s
 
 -- the profile after some calls, one after the other
 abbrev pub lived : Room → Profile → List Call → Profile
@@ -45,7 +41,7 @@ abbrev pub wide : Room
 wide = roomOf 2048 16384
 
 -- Bands 1 [100,400], 2 (400,900], 3 [200,300], 4 [250,250], 5 [100,900). Levels 100:1, 200:3, 250:1, 300:2, 400:1, 900:2.
--- They come in mixed order, and levels given for ends that stand already, or for the high end of a one-key band, mislead.
+-- They come in mixed order. Levels given for ends that stand already, and for the high end of a one-key band, are wrong on purpose.
 abbrev pub bench : Profile
 bench =
     lived wide emptyProfile
@@ -56,7 +52,7 @@ bench =
     ∷ insert (openLow 2 0 400 900) 7 5
     ∷ [])
 
--- P9: bands [10,50], [20,20], [30,30], [40,40], levels 10:2, 20:1, 30:1, 40:2, 50:1. [40,40] comes before [30,30], so that the way fits too
+-- P9: bands [10,50], [20,20], [30,30], [40,40], levels 10:2, 20:1, 30:1, 40:2, 50:1. [40,40] comes before [30,30], so that no step needs more than 8 marks
 abbrev pub p9 : Room → Profile
 p9 room =
     lived room emptyProfile

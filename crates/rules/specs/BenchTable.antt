@@ -1,5 +1,5 @@
--- "The bench profile", P1 to P10, and "Errors that look right": one table of rows, each a question to the rules with the paper's answer.
--- A row more stands for each error that P1 to P10 leave open, and for each refusal of each call. Assumes nothing.
+-- "The bench profile", P1 to P10, and "Errors that look right": one table of rows, each a question to the rules with the answer expected.
+-- P1 to P10 have the paper's own answers; a row more stands for each error that they leave open, and for each refusal of each call. Assumes nothing.
 use Prim.Native.Nat.{ℕ, suc, _+_}
 use mathlib.Core.Bool.{Bool, true, false, Bool·beq}
 use mathlib.Core.List.{List, [], _∷_, _++_, map}
@@ -14,10 +14,12 @@ use Rattle.rules.specs.Marks.{marksOf, marksInUse, numbersWhere}
 use Rattle.rules.specs.Flags.{flagsOf}
 use Rattle.rules.specs.Search.{stabOf, stepsOf}
 use Rattle.rules.specs.Readouts.{BandRead, bandReadOf, bandRead, edgeRead, nodeRead, roomRead}
-use Rattle.rules.specs.BoxSaysNo.{Room, roomOf, emptyRefusal, stabRefusal, stabAnswer, bandReadRefusal, edgeReadRefusal, nodeReadRefusal, roomReadRefusal}
+use Rattle.rules.specs.BoxSaysNo.{emptyRefusal, stabRefusal, stabAnswer, bandReadRefusal, edgeReadRefusal, nodeReadRefusal, roomReadRefusal}
+use Rattle.rules.specs.Room.{Room, roomOf}
+use Rattle.rules.specs.SoundMemory.{soundIn}
 use Rattle.rules.specs.BenchCard.{scanOf}
 use Rattle.rules.specs.Reach.{reachesOnlyStretches}
-use Rattle.rules.specs.BenchProfile.{closed, openLow, openHigh, open′, Call, insert, remove, isSound, callOf, wide, bench, p9, tall, twins, beside, lifted}
+use Rattle.rules.specs.BenchProfile.{closed, openLow, openHigh, open′, Call, insert, remove, callOf, wide, bench, p9, tall, twins, beside, lifted}
 
 -- a row: a question and the answer expected
 pub data Row : Type 0 where
@@ -27,7 +29,7 @@ pub data Row : Type 0 where
   marks : Profile → List ℕ → ℕ → Row
   -- the edges of a lane
   lane : Profile → ℕ → List Edge → Row
-  -- a stab at a key gives these bands, each met once, and so many looks
+  -- a stab at a key gives these bands, each met once, and so many looks; comparing with each band and counting the search's steps agree
   stab : Profile → ℕ → List ℕ → ℕ → Row
   -- the edge readout of a key and a lane: the next node's key or none, and the numbers marked there
   edge : Profile → ℕ → ℕ → Option ℕ → List ℕ → Row
@@ -88,14 +90,14 @@ keysHeld b (k ∷ ks) = addIf (holds b k) k (keysHeld b ks)
 
 abbrev pub profileIs : Room → Profile → List Band → List Node → ℕ → Bool
 profileIs room p bs ns m =
-    sameBands (p .bands) bs and sameNodes (p .nodes) ns and eqb (marksInUse p) m and isSound room p
+    sameBands (p .bands) bs and sameNodes (p .nodes) ns and eqb (marksInUse p) m and soundIn room p
 
 -- the number that a call names
 abbrev pub callNumber : Call → ℕ
 callNumber (insert b l h) = b .number
 callNumber (remove n s) = n
 
--- the rules answer as the paper does
+-- the rules answer as expected
 abbrev pub rowRight : Row → Bool
 rowRight (is room p bs ns m) = profileIs room p bs ns m
 rowRight (marks p each all) = sameNumbers (map (marksOf (p .nodes)) (p .bands)) each and eqb (roomRead p .marks) all
@@ -146,13 +148,19 @@ benchRows =
     19
     ∷ marks bench (7 ∷ 2 ∷ 3 ∷ 1 ∷ 6 ∷ []) 19
     ∷ lane bench 1 (edgeOf 200 300 ∷ edgeOf 300 900 ∷ [])
-    -- P1 to P7
+    -- P1
     ∷ stab bench 99 [] 8
+    -- P2
     ∷ stab bench 150 (1 ∷ 5 ∷ []) 9
+    -- P3
     ∷ stab bench 250 (1 ∷ 3 ∷ 4 ∷ 5 ∷ []) 9
+    -- P4
     ∷ stab bench 300 (1 ∷ 3 ∷ 5 ∷ []) 10
+    -- P5
     ∷ stab bench 400 (1 ∷ 5 ∷ []) 10
+    -- P6: an edge that ends at 900 bears band 5, which is open there
     ∷ stab bench 900 (2 ∷ []) 11
+    -- P7
     ∷ stab bench 1000 [] 11
     -- P8: nodes 200 and 300 go, 14 marks stay
     ∷ accepted wide bench (remove 3 0)

@@ -14,20 +14,9 @@ use Rattle.rules.specs.Profile.{Profile, hasNumber, isLive}
 use Rattle.rules.specs.Marks.{marksInUse}
 use Rattle.rules.specs.Flags.{flagWordCount}
 use Rattle.rules.specs.Search.{Stab, stabOf}
+use Rattle.rules.specs.Room.{Room}
 use Rattle.rules.specs.Changes.{inserted, removed}
 use Rattle.rules.specs.Readouts.{BandRead, bandReadOf, bandRead, EdgeRead, edgeRead, NodeRead, nodeRead, RoomRead, roomRead}
-
--- the room of a memory: how many nodes and how many marks it can take
-pub record Room : Type 0 where
-  pub nodes : ℕ
-  pub marks : ℕ
-
-abbrev pub roomOf : ℕ → ℕ → Room
-roomOf n m = record { nodes = n; marks = m }
-
--- room for 1 to 2,048 nodes and 1 to 16,384 marks
-unfoldable pub roomInRange : Room → Bool
-roomInRange r = leb 1 (r .nodes) and leb (r .nodes) 2048 and leb 1 (r .marks) and leb (r .marks) 16384
 
 -- a line of the table: its number, and whether it applies
 pub record TableLine : Type 0 where

@@ -16,18 +16,18 @@ withBand b bs = placed (λ c. c .number) b bs
 unfoldable pub withEnds : Band → ℕ → ℕ → List Node → List Node
 withEnds b lowLevel highLevel ns = withNode (b .high) highLevel (withNode (b .low) lowLevel ns)
 
--- an insert makes the band live as given, and no other band changes
+-- an accepted insert makes the band live as given, and no other band changes
 unfoldable pub inserted : Profile → Band → ℕ → ℕ → Profile
 inserted p b lowLevel highLevel = profileOf (withBand b (p .bands)) (withEnds b lowLevel highLevel (p .nodes))
 
--- the nodes that are an end of some band of the list
+-- the nodes that stand at an end of some band of the list
 unfoldable pub nodesAtEnds : List Band → List Node → List Node
 nodesAtEnds bs ns = keep (λ n. isEndOfSome bs (n .key)) ns
 
--- the profile without the bands that pass, each node kept that is an end of a band that is left
+-- the profile without the bands that pass, each node kept that stands at an end of a band that is left
 unfoldable pub withoutWhere : (Band → Bool) → Profile → Profile
 withoutWhere f p = profileOf (keep (λ b. not (f b)) (p .bands)) (nodesAtEnds (keep (λ b. not (f b)) (p .bands)) (p .nodes))
 
--- a remove ends the band of the number, and no other band changes
+-- an accepted remove ends the band of the number, and no other band changes
 unfoldable pub removed : Profile → ℕ → Profile
 removed p number = withoutWhere (hasNumber number) p

@@ -7,8 +7,8 @@ use lib.ListN.{getD}
 use Rattle.rules.specs.Tests.{oneIf, member, countFrom}
 
 -- there are 1,024 flags, one for each band number
-abbrev pub flags : ℕ
-flags = 1024
+abbrev pub flagCount : ℕ
+flagCount = 1024
 
 abbrev pub bitsPerWord : ℕ
 bitsPerWord = 64
@@ -36,4 +36,4 @@ flagAt ws n = getD ws (n / bitsPerWord) 0 / 2 ^ (n % bitsPerWord) % 2
 
 -- the count is the number of set flags
 unfoldable pub countOf : List ℕ → ℕ
-countOf ns = countFrom (λ n. member n ns) 0 flags
+countOf ns = countFrom (λ n. member n ns) 0 flagCount

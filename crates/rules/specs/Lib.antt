@@ -4,7 +4,7 @@
 --   "Nodes, lanes, edges"                  NodesLanesEdges
 --   "Marks"                                Marks
 --   "The search"                           Search, Flags
---   "Sound memory"                         SoundMemory
+--   "Sound memory"                         SoundMemory, Room
 --   "When the box says no"                 BoxSaysNo, BenchCard
 --   "What one call can reach"              Reach
 --   "The bench profile"                    BenchProfile, BenchTable
@@ -19,6 +19,7 @@ pub mod Flags
 pub mod Search
 pub mod Changes
 pub mod Readouts
+pub mod Room
 pub mod BoxSaysNo
 pub mod SoundMemory
 pub mod BenchCard

@@ -1,12 +1,13 @@
--- "Marks": which bands are marked on an edge of a lane and on a node, by the paper's rule with its quantifiers, and marks in use.
+-- "Marks": which bands the rule marks on an edge of a lane and on a node, and marks in use. A box stores what is marked;
+-- these are the marks that it must store, and its stab and readouts are never to work them out from the list of bands.
 -- Assumes nothing.
-use Prim.Native.Nat.{ℕ, suc, _+_, _-_}
+use Prim.Native.Nat.{ℕ, _+_}
 use mathlib.Core.Bool.{Bool, not}
 use mathlib.Core.List.{List, [], _∷_}
 use lib.Dec.{leb, ltb}
-use Rattle.rules.specs.Tests.{_and_, any, countIf, sumOf, someLane, sumLanes, addIf}
+use Rattle.rules.specs.Tests.{_and_, any, countIf, sumOf, sumLanes, addIf}
 use Rattle.rules.specs.HallLine.{Band, holds}
-use Rattle.rules.specs.NodesLanesEdges.{Node, Edge, edgesIn, lanes}
+use Rattle.rules.specs.NodesLanesEdges.{Node, Edge, edgesIn, lanes, inSomeLane, inSomeLaneAbove}
 use Rattle.rules.specs.Profile.{Profile}
 
 -- an edge from X to Y lies inside a band when low <= X and Y <= high; open or closed plays no part
@@ -21,9 +22,9 @@ contains f e = leb (f .from) (e .from) and leb (e .to) (f .to)
 unfoldable pub coveredInLane : List Node → Band → Edge → ℕ → Bool
 coveredInLane ns b e j = any (λ f. contains f e and inside f b) (edgesIn j ns)
 
--- edge mark: the edge of lane i lies inside the band, and no edge of a lane above i both contains it and lies inside the band
+-- edge mark, of an edge of lane i: it lies inside the band, and no edge of a lane above i both contains it and lies inside the band
 unfoldable pub edgeMarked : List Node → Band → ℕ → Edge → Bool
-edgeMarked ns b i e = inside e b and not (someLane (coveredInLane ns b e) (suc i) (lanes - suc i))
+edgeMarked ns b i e = inside e b and not (inSomeLaneAbove i (coveredInLane ns b e))
 
 -- the edge passes strictly over the key
 unfoldable pub passesOver : Edge → ℕ → Bool
@@ -33,9 +34,9 @@ passesOver e k = ltb (e .from) k and ltb k (e .to)
 unfoldable pub passedOverInLane : List Node → Band → ℕ → ℕ → Bool
 passedOverInLane ns b k j = any (λ e. passesOver e k and inside e b) (edgesIn j ns)
 
--- node mark: the band holds the node's key, and no edge that passes strictly over the node lies inside the band
+-- node mark, of a node at k: the band holds the node's key, and no edge that passes strictly over the node lies inside the band
 unfoldable pub nodeMarked : List Node → Band → ℕ → Bool
-nodeMarked ns b k = holds b k and not (someLane (passedOverInLane ns b k) 0 lanes)
+nodeMarked ns b k = holds b k and not (inSomeLane (passedOverInLane ns b k))
 
 -- how many edges of lane i bear the band's mark
 unfoldable pub edgeMarksIn : List Node → Band → ℕ → ℕ

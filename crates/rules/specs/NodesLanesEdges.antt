@@ -1,10 +1,10 @@
 -- "Nodes, lanes, edges": where nodes stand, the lanes they take part in, the edges of a lane.
 -- Assumes nothing.
-use Prim.Native.Nat.{ℕ, suc}
+use Prim.Native.Nat.{ℕ, suc, _-_}
 use mathlib.Core.Bool.{Bool, cond}
 use mathlib.Core.List.{List, [], _∷_}
 use lib.Dec.{leb, ltb, eqb}
-use Rattle.rules.specs.Tests.{_and_, _or_, addIf, any, all, placed}
+use Rattle.rules.specs.Tests.{_and_, _or_, addIf, any, all, placed, someLane}
 use Rattle.rules.specs.HallLine.{Band}
 
 -- a node: the key it stands at, and its level
@@ -23,9 +23,17 @@ pub record Edge : Type 0 where
 abbrev pub edgeOf : ℕ → ℕ → Edge
 edgeOf x y = record { from = x; to = y }
 
--- there are 8 lanes, 0 to 7
+-- there are 8 lanes, 0 to 7; the header stands before all nodes in all of them, and its links are no edges
 abbrev pub lanes : ℕ
 lanes = 8
+
+-- some lane passes
+abbrev pub inSomeLane : (ℕ → Bool) → Bool
+inSomeLane f = someLane f 0 lanes
+
+-- some lane above lane i passes
+abbrev pub inSomeLaneAbove : ℕ → (ℕ → Bool) → Bool
+inSomeLaneAbove i f = someLane f (suc i) (lanes - suc i)
 
 -- a level is 1 to 8
 unfoldable pub isLevel : ℕ → Bool
@@ -40,11 +48,12 @@ abbrev pub laneOf : ℕ → List Node → List ℕ
 laneOf i [] = []
 laneOf i (n ∷ ns) = addIf (takesPart i n) (n .key) (laneOf i ns)
 
--- the edges from x on: each joins two that are next to each other
+-- the edges from x on: each joins two nodes next to each other
 abbrev pub edgesFrom : ℕ → List ℕ → List Edge
 edgesFrom x [] = []
 edgesFrom x (y ∷ ys) = edgeOf x y ∷ edgesFrom y ys
 
+-- the edges along a lane
 abbrev pub edgesAlong : List ℕ → List Edge
 edgesAlong [] = []
 edgesAlong (x ∷ xs) = edgesFrom x xs

@@ -1,4 +1,4 @@
--- "What is built": a profile, which is its live bands, ascending by number, and its nodes, ascending by key.
+-- "What is built": a profile, which is its live bands and its nodes. In a sound one they ascend by number and by key.
 -- Assumes nothing.
 use Prim.Native.Nat.{ℕ}
 use mathlib.Core.Bool.{Bool}

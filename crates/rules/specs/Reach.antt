@@ -1,13 +1,13 @@
 -- "What one call can reach": answers at other machines' keys, and the stretches outside which other bands keep their marks.
 -- Assumes nothing.
-use Prim.Native.Nat.{ℕ, max, min}
+use Prim.Native.Nat.{ℕ, max, min, _≤_}
 use mathlib.Core.Path.{_≡_}
-use mathlib.Core.Bool.{Bool, not, cond}
+use mathlib.Core.Bool.{Bool, false, not, cond}
 use mathlib.Core.List.{List, [], _∷_, _++_}
 use lib.Dec.{leb, ltb, eqb}
-use Rattle.rules.specs.Tests.{_and_, _or_, any, all, keep, someLane}
-use Rattle.rules.specs.HallLine.{Band, highestKey}
-use Rattle.rules.specs.NodesLanesEdges.{Node, Edge, edgesIn, lanes, standsAt}
+use Rattle.rules.specs.Tests.{_and_, _or_, any, all, keep}
+use Rattle.rules.specs.HallLine.{Band, highestKey, ownKey}
+use Rattle.rules.specs.NodesLanesEdges.{Node, Edge, edgesIn, inSomeLane, standsAt}
 use Rattle.rules.specs.Profile.{Profile, hasNumber}
 use Rattle.rules.specs.Marks.{edgeMarked, nodeMarked}
 use Rattle.rules.specs.Search.{stabOf}
@@ -17,6 +17,10 @@ pub record AnswersAlike (p q : Profile) (k : ℕ) : Type 0 where
   pub flags : stabOf p k .flags ≡ stabOf q k .flags
   pub count : stabOf p k .count ≡ stabOf q k .count
   pub met : stabOf p k .met ≡ stabOf q k .met
+
+-- a call of scope m below 64, if it is accepted, leaves answers the same at every key of every other machine
+abbrev pub OthersAlike : ℕ → Profile → Profile → Type 0
+OthersAlike m p q = (k : ℕ) → k ≤ highestKey → ownKey m k ≡ false → AnswersAlike p q k
 
 -- the node is present in the list: at its key, with its level
 unfoldable pub present : List Node → Node → Bool
@@ -62,11 +66,11 @@ strictlyInside k s = ltb (s .from) k and ltb k (s .to)
 
 -- the edge lies in a stretch of some node made or dropped
 unfoldable pub edgeReached : List Node → List Node → Edge → Bool
-edgeReached both changed e = any (λ n. liesIn e (stretchOf both n)) changed
+edgeReached both touched e = any (λ n. liesIn e (stretchOf both n)) touched
 
 -- the key is strictly inside a stretch of some node made or dropped
 unfoldable pub keyReached : List Node → List Node → ℕ → Bool
-keyReached both changed k = any (λ n. strictlyInside k (stretchOf both n)) changed
+keyReached both touched k = any (λ n. strictlyInside k (stretchOf both n)) touched
 
 -- e is an edge of lane i that bears the band's mark
 unfoldable pub edgeMarkStands : List Node → Band → ℕ → Edge → Bool
@@ -78,29 +82,29 @@ nodeMarkStands ns b k = standsAt k ns and nodeMarked ns b k
 
 -- the band loses a mark, between two node lists, on some edge of lane i that is not reached
 unfoldable pub losesInLane : List Node → List Node → List Node → List Node → Band → ℕ → Bool
-losesInLane both changed before after b i =
+losesInLane both touched before after b i =
     any
-    (λ e. not (edgeReached both changed e) and edgeMarked before b i e and not (edgeMarkStands after b i e))
+    (λ e. not (edgeReached both touched e) and edgeMarked before b i e and not (edgeMarkStands after b i e))
     (edgesIn i before)
 
 -- the band loses a mark, between two node lists, on some node that is not reached
 unfoldable pub losesOnNode : List Node → List Node → List Node → List Node → Band → Bool
-losesOnNode both changed before after b =
+losesOnNode both touched before after b =
     any
-    (λ n. not (keyReached both changed (n .key)) and nodeMarked before b (n .key) and not (nodeMarkStands after b (n .key)))
+    (λ n. not (keyReached both touched (n .key)) and nodeMarked before b (n .key) and not (nodeMarkStands after b (n .key)))
     before
 
 -- the band keeps every mark on edges not lying in such a stretch and on nodes not strictly inside one
 unfoldable pub keepsMarks : List Node → List Node → List Node → List Node → Band → Bool
-keepsMarks both changed before after b =
-    not (someLane (losesInLane both changed before after b) 0 lanes) and not (losesOnNode both changed before after b)
+keepsMarks both touched before after b =
+    not (inSomeLane (losesInLane both touched before after b)) and not (losesOnNode both touched before after b)
 
 -- each band but the call's own keeps every such mark, and gains none: the same read backwards
 unfoldable pub reachesOnlyStretches : ℕ → Profile → Profile → Bool
 reachesOnlyStretches number p q =
     let both : List Node = presentBoth (p .nodes) (q .nodes) in
-    let changed : List Node = madeOrDropped (p .nodes) (q .nodes) in
+    let touched : List Node = madeOrDropped (p .nodes) (q .nodes) in
     all
     (λ b. hasNumber number b
-    or (keepsMarks both changed (p .nodes) (q .nodes) b and keepsMarks both changed (q .nodes) (p .nodes) b))
+    or (keepsMarks both touched (p .nodes) (q .nodes) b and keepsMarks both touched (q .nodes) (p .nodes) b))
     (p .bands)

@@ -25,13 +25,13 @@ pub record Spot : Type 0 where
 abbrev pub spotOf : Here → List Node → ℕ → Spot
 spotOf h ns s = record { here = h; ahead = ns; steps = s }
 
--- in lane i, step on while the next node is below k; stop when it is absent or not below k
+-- in lane i, step on while the next node is below k; the search drops the lane where the next is absent or not below k
 abbrev pub dropAmong : ℕ → ℕ → Spot → List Node → Spot
 dropAmong i k at [] = at
 dropAmong i k at (n ∷ ns) =
     let further : Spot = dropAmong i k (spotOf (on (n .key)) ns (at .steps + 1)) ns in
-    let past : Spot = dropAmong i k at ns in
-    cond (takesPart i n) (cond (ltb (n .key) k) further at) past
+    let skipped : Spot = dropAmong i k at ns in
+    cond (takesPart i n) (cond (ltb (n .key) k) further at) skipped
 
 unfoldable pub dropIn : ℕ → ℕ → Spot → Spot
 dropIn i k at = dropAmong i k at (at .ahead)
@@ -82,7 +82,7 @@ steppedOnto ns k n = ltb (n .key) k and not (tallerBetween ns k n)
 unfoldable pub looks : Profile → ℕ → ℕ
 looks p k = 8 + countIf (steppedOnto (p .nodes) k) (p .nodes)
 
--- a stab's answer: flags, count, marks met, looks
+-- what a stab answers where it is not refused: flags, count, marks met (how many marks the search takes), looks
 pub record Stab : Type 0 where
   pub flags : List ℕ
   pub count : ℕ

@@ -1,5 +1,5 @@
 -- "Sound memory", as far as it speaks of the profile: nodes, levels and bands by the rules, and within its room.
--- That the words of a memory hold such a profile and its marks is said where memory is known.
+-- What words of memory hold such a profile and its marks is not said here: these rules know no memory.
 -- Assumes nothing.
 use Prim.Native.Nat.{ℕ, suc}
 use mathlib.Core.Bool.{Bool, true}
@@ -11,7 +11,8 @@ use Rattle.rules.specs.HallLine.{Band}
 use Rattle.rules.specs.NodesLanesEdges.{Node, isLevel, endsStand, onlyEndsStand}
 use Rattle.rules.specs.Profile.{Profile}
 use Rattle.rules.specs.Marks.{marksInUse}
-use Rattle.rules.specs.BoxSaysNo.{Room, roomInRange, bandFault}
+use Rattle.rules.specs.Room.{Room, roomInRange}
+use Rattle.rules.specs.BoxSaysNo.{bandFault}
 
 -- band numbers ascend strictly, the first at least c
 abbrev pub numbersAscend : ℕ → List Band → Bool
@@ -45,3 +46,7 @@ standing p =
 -- nodes and marks, by the rule's own count, are within a room that is in range
 unfoldable pub fits : Room → Profile → Bool
 fits room p = roomInRange room and leb (length (p .nodes)) (room .nodes) and leb (marksInUse p) (room .marks)
+
+-- a profile that memory of that room may soundly hold
+unfoldable pub soundIn : Room → Profile → Bool
+soundIn room p = standing p and fits room p
