@@ -15,7 +15,8 @@ use Rattle.rules.specs.Marks.{marksInUse}
 use Rattle.rules.specs.Changes.{inserted, removed}
 use Rattle.rules.specs.Room.{Room, roomInRange}
 use Rattle.rules.specs.BoxSaysNo.{TableLine, lowest, sizesWrong, notSound, scopeAbove, numberAbove, keyAbove, endAbove, holdsNone, endElsewhere, levelWrong, numberLive, numberNotLive, scopeOther, nodesExceed, marksExceed, noNode, noLane, bandLines, insertLines, removeLines, stabLines, bandReadLines, edgeReadLines, nodeReadLines, keyFault, bandFault, faultOf, insertRefusal, removeRefusal, emptyRefusal, stabRefusal, bandReadRefusal, edgeReadRefusal, nodeReadRefusal, roomReadRefusal}
-use Rattle.rules.proofs.Tests.{Means, Fails, never, reworded, itself, denied, not-means, not-fails, and-means, and-fails, and3-means, or-means, or-fails, implies-fails, lt-means, lt-fails, le-means, le-fails, eq-means, Some, Each, some-cons, each-cons, any-means, any-fails}
+use Rattle.rules.proofs.Means.{Means, Fails, never, reworded, itself, denied, not-means, not-fails, and-means, and-fails, and3-means, or-means, or-fails, implies-fails, lt-means, lt-fails, le-means, le-fails, eq-means}
+use Rattle.rules.proofs.Lists.{Some, Each, some-cons, each-cons, any-means, any-fails}
 use Rattle.rules.proofs.HallLine.{Own, own-key-means, holds-whole-key-means}
 use Rattle.rules.proofs.NodesLanesEdges.{Level, is-level-means, NodeAt, stands-at-means}
 use Rattle.rules.proofs.Profile.{has-number-means, is-live-means}

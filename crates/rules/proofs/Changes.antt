@@ -11,7 +11,8 @@ use Rattle.rules.specs.HallLine.{Band}
 use Rattle.rules.specs.NodesLanesEdges.{Node, nodeOf, standsAt, levelAt, isEndOfSome, withNode}
 use Rattle.rules.specs.Profile.{Profile, hasNumber}
 use Rattle.rules.specs.Changes.{withBand, withEnds, inserted, nodesAtEnds, withoutWhere, removed}
-use Rattle.rules.proofs.Tests.{Means, reworded, denied, not-means, In, Some, Each, in-kept, ascends-keep, in-placed, placed-ascends}
+use Rattle.rules.proofs.Means.{Means, reworded, denied, not-means}
+use Rattle.rules.proofs.Lists.{In, Some, Each, in-kept, ascends-keep, in-placed, placed-ascends}
 use Rattle.rules.proofs.NodesLanesEdges.{NodeAt, NoNodeAt, stands-at-means, EndOf, is-end-of-some-means, Asc, level-there, in-with-node, at-with-node, with-node-ascends}
 use Rattle.rules.proofs.Profile.{has-number-means, NumbersAsc}
 

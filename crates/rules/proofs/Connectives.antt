@@ -2,7 +2,7 @@
 -- Assumes nothing.
 use mathlib.Core.Path.{_≡_, refl}
 use mathlib.Core.Bool.{Bool, true, false, _&&_, _||_}
-use Rattle.rules.specs.Tests.{_and_, _or_}
+use Rattle.rules.specs.Connectives.{_and_, _or_}
 
 pub both : {a b x y : Bool} → a ≡ x → b ≡ y → a && b ≡ x and y
 unfolding _and_

@@ -5,7 +5,7 @@ use mathlib.Core.Path.{_≡_}
 use mathlib.Core.Bool.{true, false}
 use mathlib.Core.List.{[], _∷_}
 use borrow.Author.Tests.{lt-ltb, le-ltb}
-use Rattle.rules.specs.Tests.{_and_, _or_}
+use Rattle.rules.specs.Connectives.{_and_, _or_}
 use Rattle.rules.specs.HallLine.{Band, highestKey, highestBandNumber, house, holdsWholeKey, withinScope}
 use Rattle.rules.specs.NodesLanesEdges.{isLevel}
 use Rattle.rules.specs.BoxSaysNo.{lowest, holdsNone, endElsewhere, bandFault, faultOf}

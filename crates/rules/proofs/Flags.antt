@@ -13,9 +13,11 @@ use borrow.Author.Tests.{ltb-true, eqb-true, eqb-false, ne-eqb, not-true}
 use lib.Dec.{eqb, ltb}
 use lib.ListN.{length, getD, replicate}
 use lib.Count.{ones, ones-step}
-use Rattle.rules.specs.Tests.{_and_, _or_, oneIf, all, sumOf, member, distinct, countFrom}
+use Rattle.rules.specs.Connectives.{_and_, _or_, oneIf}
+use Rattle.rules.specs.Lists.{all, sumOf, member, distinct, countFrom}
 use Rattle.rules.specs.Flags.{flagsOf, flagAt, countOf, bitsFrom, wordsFrom}
-use Rattle.rules.proofs.Tests.{and-both, In, member-means}
+use Rattle.rules.proofs.Means.{and-both}
+use Rattle.rules.proofs.Lists.{In, member-means}
 
 oneIf-below-two : (b : Bool) → oneIf b < 2
 oneIf-below-two true = omega arith

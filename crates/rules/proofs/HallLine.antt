@@ -9,9 +9,9 @@ use mathlib.Core.Logic.{_⊎_, inl, inr, ⊎-elim}
 use native.Mathlib.Omega.{arith}
 use native.Mathlib.Nat.{eq-or-lt-of-le}
 use lib.Dec.{eqb}
-use Rattle.rules.specs.Tests.{_and_, _or_}
+use Rattle.rules.specs.Connectives.{_and_, _or_}
 use Rattle.rules.specs.HallLine.{machines, sensors, readings, highestKey, keysPerMachine, house, partsInRange, keyOf, firstKey, ownKey, Band, bandOf, pastLow, beforeHigh, holds, firstPast, holdsWholeKey, withinScope}
-use Rattle.rules.proofs.Tests.{Means, same-means, passes-or-fails, itself, and-means, and3-means, or-means, lt-means, le-means, eq-means}
+use Rattle.rules.proofs.Means.{Means, same-means, passes-or-fails, itself, and-means, and3-means, or-means, lt-means, le-means, eq-means}
 
 pub parts-in-range-means : (m s r : ℕ) → Means (partsInRange m s r) ((m < machines) × (s < sensors) × (r < readings))
 unfolding partsInRange

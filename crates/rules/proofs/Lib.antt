@@ -1,6 +1,7 @@
 -- What the definitions mean. A file bears the name of the file of specs/ whose laws it holds;
 -- Connectives and Faults hold laws in the form that code asks for.
-pub mod Tests
+pub mod Means
+pub mod Lists
 pub mod Connectives
 pub mod HallLine
 pub mod NodesLanesEdges

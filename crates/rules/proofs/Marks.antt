@@ -7,12 +7,13 @@ use mathlib.Core.Logic.{_↔_}
 use mathlib.Core.List.{List, [], _∷_, map}
 use native.Mathlib.Omega.{arith}
 use lib.ListN.{length}
-use Rattle.rules.specs.Tests.{addIf, countIf}
+use Rattle.rules.specs.Lists.{addIf, countIf}
 use Rattle.rules.specs.HallLine.{Band, holds}
 use Rattle.rules.specs.NodesLanesEdges.{Node, Edge, edgesIn, lanes}
 use Rattle.rules.specs.Profile.{Profile}
 use Rattle.rules.specs.Marks.{inside, contains, coveredInLane, edgeMarked, passesOver, passedOverInLane, nodeMarked, numbersWhere, markedOnEdge, markedOnNode}
-use Rattle.rules.proofs.Tests.{Means, reworded, itself, denied, not-means, and-means, lt-means, le-means, In, Some, any-means, Distinct, in-made, length-made, in-map, lane-fails}
+use Rattle.rules.proofs.Means.{Means, reworded, itself, denied, not-means, and-means, lt-means, le-means}
+use Rattle.rules.proofs.Lists.{In, Some, any-means, Distinct, in-made, length-made, in-map, lane-fails}
 
 -- the edge lies inside the band
 abbrev pub Inside : Edge → Band → Type 0

@@ -9,10 +9,11 @@ use mathlib.Core.Logic.{_↔_, Iff·trans, _⊎_, inl, inr, ⊎-elim, ⊎-map}
 use mathlib.Core.List.{List, [], _∷_}
 use native.Mathlib.Omega.{arith}
 use borrow.Author.Tests.{eq-eqb, ne-eqb}
-use Rattle.rules.specs.Tests.{addIf, placed}
+use Rattle.rules.specs.Lists.{addIf, placed}
 use Rattle.rules.specs.HallLine.{Band}
 use Rattle.rules.specs.NodesLanesEdges.{Node, Edge, edgeOf, lanes, isLevel, takesPart, laneOf, edgesFrom, edgesAlong, edgesIn, levelAt, standsAt, isEnd, isEndOfSome, endsStand, onlyEndsStand, nodeOf, withNode}
-use Rattle.rules.proofs.Tests.{Means, reworded, denied, some-or-none, in-placed, placed-ascends, and-means, or-means, lt-means, le-means, eq-means, In, Some, Each, each-cons, any-means, all-means, in-made, Ascends, ascends-lower, ascends-from}
+use Rattle.rules.proofs.Means.{Means, reworded, denied, and-means, or-means, lt-means, le-means, eq-means}
+use Rattle.rules.proofs.Lists.{some-or-none, in-placed, placed-ascends, In, Some, Each, each-cons, any-means, all-means, in-made, Ascends, ascends-lower, ascends-from}
 
 -- a level is 1 to 8
 abbrev pub Level : ℕ → Type 0

@@ -5,10 +5,11 @@ use mathlib.Core.Path.{_≡_, refl, _∙_, ap}
 use mathlib.Core.Logic.{_↔_}
 use mathlib.Core.List.{List}
 use mathlib.Core.Option.{Option, none, some}
-use Rattle.rules.specs.Tests.{keep}
+use Rattle.rules.specs.Lists.{keep}
 use Rattle.rules.specs.HallLine.{Band}
 use Rattle.rules.specs.Profile.{hasNumber, isLive, bandNumbered}
-use Rattle.rules.proofs.Tests.{Means, eq-means, In, Some, Each, any-means, in-keep, first-in, first-none, Ascends, ascends-once}
+use Rattle.rules.proofs.Means.{Means, eq-means}
+use Rattle.rules.proofs.Lists.{In, Some, Each, any-means, in-keep, first-in, first-none, Ascends, ascends-once}
 
 pub has-number-means : (n : ℕ) (b : Band) → Means (hasNumber n b) (b .number ≡ n)
 unfolding hasNumber

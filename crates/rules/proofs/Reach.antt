@@ -8,13 +8,15 @@ use mathlib.Core.Logic.{_↔_, Iff·trans, _⊎_, inl, inr, ⊎-elim, ⊎-map}
 use mathlib.Core.List.{List, [], _∷_}
 use native.Mathlib.Omega.{arith}
 use lib.Dec.{eqb}
-use Rattle.rules.specs.Tests.{_and_, keep}
+use Rattle.rules.specs.Connectives.{_and_}
+use Rattle.rules.specs.Lists.{keep}
 use Rattle.rules.specs.HallLine.{Band, highestKey}
 use Rattle.rules.specs.NodesLanesEdges.{Node, nodeOf, Edge, edgeOf, edgesIn, lanes}
 use Rattle.rules.specs.Profile.{Profile}
 use Rattle.rules.specs.Marks.{edgeMarked, nodeMarked}
 use Rattle.rules.specs.Reach.{present, presentBoth, madeOrDropped, Stretch, nearestBefore, nearestAfter, stretchOf, liesIn, strictlyInside, edgeReached, keyReached, edgeMarkStands, nodeMarkStands, losesInLane, losesOnNode, keepsMarks, reachesOnlyStretches}
-use Rattle.rules.proofs.Tests.{Means, Fails, reworded, itself, denied, not-means, and-means, or-means, then-fails, implies-fails, lt-means, le-means, eq-means, at-most-or-above, In, Some, Each, each-cons, any-means, any-fails, all-means, find-means, in-kept, some-or-none, in-append, lane-fails}
+use Rattle.rules.proofs.Means.{Means, Fails, reworded, itself, denied, not-means, and-means, or-means, then-fails, implies-fails, lt-means, le-means, eq-means, at-most-or-above}
+use Rattle.rules.proofs.Lists.{In, Some, Each, each-cons, any-means, any-fails, all-means, find-means, in-kept, some-or-none, in-append, lane-fails}
 use Rattle.rules.proofs.NodesLanesEdges.{NodeAt, stands-at-means}
 use Rattle.rules.proofs.Profile.{has-number-means}
 

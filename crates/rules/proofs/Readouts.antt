@@ -10,13 +10,14 @@ use mathlib.Core.Option.{none, some}
 use native.Mathlib.Omega.{arith}
 use lib.Dec.{ltb}
 use lib.ListN.{replicate}
-use Rattle.rules.specs.Tests.{keep, firstOf}
+use Rattle.rules.specs.Lists.{keep, firstOf}
 use Rattle.rules.specs.NodesLanesEdges.{edgeOf, laneOf, edgesIn}
 use Rattle.rules.specs.Profile.{Profile}
 use Rattle.rules.specs.Marks.{edgeMarked, nodeMarked, markedOnEdge, markedOnNode}
 use Rattle.rules.specs.Flags.{flagAt}
 use Rattle.rules.specs.Readouts.{bandReadOf, bandRead, nextIn, edgeRead, nodeRead}
-use Rattle.rules.proofs.Tests.{lt-means, at-most-or-above, In, Some, Each, in-kept, first-none, Ascends, ascends-keep, first-least}
+use Rattle.rules.proofs.Means.{lt-means, at-most-or-above}
+use Rattle.rules.proofs.Lists.{In, Some, Each, in-kept, first-none, Ascends, ascends-keep, first-least}
 use Rattle.rules.proofs.NodesLanesEdges.{Asc, lane-ascends, edge-rule, level-there}
 use Rattle.rules.proofs.Profile.{NumbersAsc, numbered, numbered-none}
 use Rattle.rules.proofs.Marks.{in-marked-on-edge, in-marked-on-node}

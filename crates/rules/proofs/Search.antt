@@ -4,7 +4,8 @@ use Prim.Native.Nat.{ℕ, _<_}
 use mathlib.Core.List.{List}
 use Rattle.rules.specs.NodesLanesEdges.{Node}
 use Rattle.rules.specs.Search.{tallerBetween, steppedOnto}
-use Rattle.rules.proofs.Tests.{Means, reworded, denied, not-means, and-means, and3-means, lt-means, Some, Each, any-means}
+use Rattle.rules.proofs.Means.{Means, reworded, denied, not-means, and-means, and3-means, lt-means}
+use Rattle.rules.proofs.Lists.{Some, Each, any-means}
 
 -- the second node is of greater level and stands between the first and k
 abbrev pub TallerBetween : ℕ → Node → Node → Type 0

@@ -4,7 +4,7 @@ use Prim.Native.Nat.{ℕ, suc}
 use mathlib.Core.Bool.{cond}
 use mathlib.Core.List.{List, [], _∷_, _++_}
 use lib.Dec.{eqb}
-use Rattle.rules.specs.Tests.{member}
+use Rattle.rules.specs.Lists.{member}
 use Rattle.rules.specs.HallLine.{Band, holds}
 use Rattle.rules.specs.Marks.{numbersWhere}
 use Rattle.rules.specs.Flags.{flagsOf, countOf}

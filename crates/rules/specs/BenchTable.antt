@@ -6,8 +6,9 @@ use mathlib.Core.List.{List, [], _∷_, _++_, map}
 use mathlib.Core.Option.{Option, none, some}
 use lib.Dec.{eqb}
 use lib.ListN.{length}
-use Rattle.rules.specs.Tests.{_and_, addIf}
-use Rattle.rules.specs.HallLine.{Band, bandOf, holds, house}
+use Rattle.rules.specs.Connectives.{_and_}
+use Rattle.rules.specs.Lists.{addIf}
+use Rattle.rules.specs.HallLine.{Band, holds, house}
 use Rattle.rules.specs.NodesLanesEdges.{Node, nodeOf, Edge, edgeOf, edgesIn}
 use Rattle.rules.specs.Profile.{Profile, profileOf, emptyProfile}
 use Rattle.rules.specs.Marks.{marksOf, marksInUse, numbersWhere}

@@ -2,12 +2,13 @@
 -- Whether sizes are right and memory is sound is given here as two Bools: these rules know no memory.
 -- Assumes nothing.
 use Prim.Native.Nat.{ℕ}
-use mathlib.Core.Bool.{Bool, true, false, not, cond}
+use mathlib.Core.Bool.{Bool, not, cond}
 use mathlib.Core.List.{List, [], _∷_, _++_}
 use mathlib.Core.Option.{none}
-use lib.Dec.{leb, ltb, eqb}
+use lib.Dec.{ltb, eqb}
 use lib.ListN.{length, replicate}
-use Rattle.rules.specs.Tests.{_and_, _or_, any}
+use Rattle.rules.specs.Connectives.{_and_, _or_}
+use Rattle.rules.specs.Lists.{any}
 use Rattle.rules.specs.HallLine.{Band, highestKey, highestBandNumber, house, holdsWholeKey, withinScope}
 use Rattle.rules.specs.NodesLanesEdges.{isLevel, standsAt, levelAt}
 use Rattle.rules.specs.Profile.{Profile, hasNumber, isLive}

@@ -3,7 +3,7 @@
 use Prim.Native.Nat.{ℕ}
 use mathlib.Core.Bool.{Bool, not}
 use mathlib.Core.List.{List}
-use Rattle.rules.specs.Tests.{keep, placed}
+use Rattle.rules.specs.Lists.{keep, placed}
 use Rattle.rules.specs.HallLine.{Band}
 use Rattle.rules.specs.NodesLanesEdges.{Node, withNode, isEndOfSome}
 use Rattle.rules.specs.Profile.{Profile, profileOf, hasNumber}

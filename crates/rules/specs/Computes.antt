@@ -1,6 +1,6 @@
 -- One name that opens every rule where something is to be computed.
 -- Assumes nothing.
-use Rattle.rules.specs.Tests.{_and_, _or_}
+use Rattle.rules.specs.Connectives.{_and_, _or_}
 use Rattle.rules.specs.HallLine.{partsInRange, keyOf, firstKey, ownKey, pastLow, beforeHigh, holds, firstPast, holdsWholeKey, withinScope}
 use Rattle.rules.specs.NodesLanesEdges.{isLevel, takesPart, standsAt, isEnd, isEndOfSome, endsStand, onlyEndsStand, withNode}
 use Rattle.rules.specs.Profile.{hasNumber, isLive, bandNumbered}

@@ -4,7 +4,8 @@ use Prim.Native.Nat.{ℕ, zero, suc, _+_, _*_, _/_, _%_, _^_}
 use mathlib.Core.Bool.{Bool}
 use mathlib.Core.List.{List, [], _∷_}
 use lib.ListN.{getD}
-use Rattle.rules.specs.Tests.{oneIf, member, countFrom}
+use Rattle.rules.specs.Connectives.{oneIf}
+use Rattle.rules.specs.Lists.{member, countFrom}
 
 -- there are 1,024 flags, one for each band number
 abbrev pub flagCount : ℕ

@@ -3,7 +3,7 @@
 use Prim.Native.Nat.{ℕ, _+_, _*_}
 use mathlib.Core.Bool.{Bool, cond}
 use lib.Dec.{leb, ltb, eqb}
-use Rattle.rules.specs.Tests.{_and_, _or_}
+use Rattle.rules.specs.Connectives.{_and_, _or_}
 
 -- machine 0 to 63, sensor 0 to 31, reading 0 to 1,023
 abbrev pub machines : ℕ

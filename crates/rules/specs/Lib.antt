@@ -9,8 +9,9 @@
 --   "What one call can reach"              Reach
 --   "The bench profile"                    BenchProfile, BenchTable
 --   "Errors that look right"               BenchTable
--- Tests has the plain tests over lists that they are worded with, and Computes opens them all at once.
-pub mod Tests
+-- Connectives and Lists have the plain tests that they are worded with, and Computes opens them all at once.
+pub mod Connectives
+pub mod Lists
 pub mod HallLine
 pub mod NodesLanesEdges
 pub mod Profile

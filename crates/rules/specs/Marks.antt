@@ -5,7 +5,8 @@ use Prim.Native.Nat.{ℕ, _+_}
 use mathlib.Core.Bool.{Bool, not}
 use mathlib.Core.List.{List, [], _∷_}
 use lib.Dec.{leb, ltb}
-use Rattle.rules.specs.Tests.{_and_, any, countIf, sumOf, sumLanes, addIf}
+use Rattle.rules.specs.Connectives.{_and_}
+use Rattle.rules.specs.Lists.{any, countIf, sumOf, sumLanes, addIf}
 use Rattle.rules.specs.HallLine.{Band, holds}
 use Rattle.rules.specs.NodesLanesEdges.{Node, Edge, edgesIn, lanes, inSomeLane, inSomeLaneAbove}
 use Rattle.rules.specs.Profile.{Profile}

@@ -4,7 +4,8 @@ use Prim.Native.Nat.{ℕ, suc, _-_}
 use mathlib.Core.Bool.{Bool, cond}
 use mathlib.Core.List.{List, [], _∷_}
 use lib.Dec.{leb, ltb, eqb}
-use Rattle.rules.specs.Tests.{_and_, _or_, addIf, any, all, placed, someLane}
+use Rattle.rules.specs.Connectives.{_and_, _or_}
+use Rattle.rules.specs.Lists.{addIf, any, all, placed, someLane}
 use Rattle.rules.specs.HallLine.{Band}
 
 -- a node: the key it stands at, and its level

@@ -5,7 +5,7 @@ use mathlib.Core.Bool.{Bool}
 use mathlib.Core.List.{List, []}
 use mathlib.Core.Option.{Option}
 use lib.Dec.{eqb}
-use Rattle.rules.specs.Tests.{any, keep, firstOf}
+use Rattle.rules.specs.Lists.{any, keep, firstOf}
 use Rattle.rules.specs.HallLine.{Band}
 use Rattle.rules.specs.NodesLanesEdges.{Node}
 

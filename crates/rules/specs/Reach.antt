@@ -5,7 +5,8 @@ use mathlib.Core.Path.{_≡_}
 use mathlib.Core.Bool.{Bool, false, not, cond}
 use mathlib.Core.List.{List, [], _∷_, _++_}
 use lib.Dec.{leb, ltb, eqb}
-use Rattle.rules.specs.Tests.{_and_, _or_, any, all, keep}
+use Rattle.rules.specs.Connectives.{_and_, _or_}
+use Rattle.rules.specs.Lists.{any, all, keep}
 use Rattle.rules.specs.HallLine.{Band, highestKey, ownKey}
 use Rattle.rules.specs.NodesLanesEdges.{Node, Edge, edgesIn, inSomeLane, standsAt}
 use Rattle.rules.specs.Profile.{Profile, hasNumber}

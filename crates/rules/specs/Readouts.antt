@@ -6,7 +6,7 @@ use mathlib.Core.List.{List, []}
 use mathlib.Core.Option.{Option, none, some}
 use lib.Dec.{ltb}
 use lib.ListN.{length}
-use Rattle.rules.specs.Tests.{keep, firstOf}
+use Rattle.rules.specs.Lists.{keep, firstOf}
 use Rattle.rules.specs.HallLine.{Band}
 use Rattle.rules.specs.NodesLanesEdges.{edgeOf, laneOf, levelAt}
 use Rattle.rules.specs.Profile.{Profile, bandNumbered}

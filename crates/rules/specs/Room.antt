@@ -3,7 +3,7 @@
 use Prim.Native.Nat.{ℕ}
 use mathlib.Core.Bool.{Bool}
 use lib.Dec.{leb}
-use Rattle.rules.specs.Tests.{_and_}
+use Rattle.rules.specs.Connectives.{_and_}
 
 pub record Room : Type 0 where
   pub nodes : ℕ

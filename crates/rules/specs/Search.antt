@@ -5,7 +5,8 @@ use mathlib.Core.Bool.{Bool, not, cond}
 use mathlib.Core.List.{List, [], _∷_, _++_}
 use lib.Dec.{ltb}
 use lib.ListN.{length}
-use Rattle.rules.specs.Tests.{_and_, onlyIf, any, countIf}
+use Rattle.rules.specs.Connectives.{_and_}
+use Rattle.rules.specs.Lists.{onlyIf, any, countIf}
 use Rattle.rules.specs.NodesLanesEdges.{Node, edgeOf, laneOf, lanes, takesPart, standsAt}
 use Rattle.rules.specs.Profile.{Profile}
 use Rattle.rules.specs.Marks.{markedOnEdge, markedOnNode}

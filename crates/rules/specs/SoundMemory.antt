@@ -6,7 +6,8 @@ use mathlib.Core.Bool.{Bool, true}
 use mathlib.Core.List.{List, [], _∷_}
 use lib.Dec.{leb, eqb}
 use lib.ListN.{length}
-use Rattle.rules.specs.Tests.{_and_, all}
+use Rattle.rules.specs.Connectives.{_and_}
+use Rattle.rules.specs.Lists.{all}
 use Rattle.rules.specs.HallLine.{Band}
 use Rattle.rules.specs.NodesLanesEdges.{Node, isLevel, endsStand, onlyEndsStand}
 use Rattle.rules.specs.Profile.{Profile}

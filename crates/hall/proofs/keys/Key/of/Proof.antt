@@ -2,7 +2,7 @@
 -- Assumes nothing.
 use borrow.Author.Needs.{needs}
 use borrow.Author.Tests.{lt-ltb, le-ltb}
-use Rattle.rules.specs.Tests.{_and_}
+use Rattle.rules.specs.Connectives.{_and_}
 use Rattle.rules.specs.HallLine.{partsInRange, keyOf}
 use Rattle.hall.specs.MadeKeys.{keyMade}
 use Rattle.hall.proofs.keys.Key.of.Statement.{statement}

@@ -1,27 +1,11 @@
--- Tests and counts over lists, numbers and lanes, from which the rules are worded. Knows nothing of the hall.
+-- Tests and counts over lists, numbers and lanes, from which the rules are worded. They know nothing of the hall.
 -- Assumes nothing.
 use Prim.Native.Nat.{ℕ, zero, suc, _+_}
 use mathlib.Core.Bool.{Bool, true, false, not, cond}
 use mathlib.Core.List.{List, [], _∷_}
 use mathlib.Core.Option.{Option, none, some}
 use lib.Dec.{ltb, eqb}
-
-infixr 35 _and_
-infixr 30 _or_
--- both hold
-unfoldable pub _and_ : Bool → Bool → Bool
-true and b = b
-false and b = false
-
--- at least one holds
-unfoldable pub _or_ : Bool → Bool → Bool
-true or b = true
-false or b = b
-
--- 1 where the test holds, else 0
-abbrev pub oneIf : Bool → ℕ
-oneIf true = 1
-oneIf false = 0
+use Rattle.rules.specs.Connectives.{_and_, _or_, oneIf}
 
 module _ {A : Type 0} where
   -- the list, or nothing where the test fails
