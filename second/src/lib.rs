@@ -1,4 +1,4 @@
-//! A model of the paper (document 01), rule by rule and by brute force.
+//! A model of the paper "Build scope and exact rules", rule by rule and by brute force.
 //!
 //! Each module follows one heading of the paper and cites it. Nothing here is
 //! clever: a rule that says "no edge" looks at the edges, and a rule that speaks

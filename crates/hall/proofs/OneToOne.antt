@@ -1,4 +1,4 @@
--- Reading an answer by what it says is one to one: equal readings, equal values.
+-- What an answer says is one to one: two that say the same are equal.
 -- Assumes nothing.
 use mathlib.Core.Path.{_≡_, refl, sym, ap, _∙_}
 use mathlib.Core.Bool.{cond}
@@ -13,7 +13,7 @@ use Rattle.hall.specs.declared.answers.Answer.{Answer}
 use Rattle.hall.specs.declared.answers.Next.{Next}
 use Rattle.hall.specs.declared.keys.Made.{Made}
 
--- a reading that can be read back is one to one
+-- what can be told back from what is said is one to one
 read-back : {A B : Type 0} (says : A → B) (back : B → A) → ((a : A) → back (says a) ≡ a)
     → (a b : A) → says a ≡ says b → a ≡ b
 read-back says back found a b e = sym (found a) ∙ ap back e ∙ found b

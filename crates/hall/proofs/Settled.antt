@@ -1,4 +1,4 @@
--- No second answer meets a promise of this crate: each promise is an equation on the value, or by a reading that is one to one.
+-- No second answer meets a promise of this crate: each promise is an equation on the value, or on what it says, which is one to one.
 -- Assumes nothing.
 use mathlib.Core.Path.{_≡_, sym, _∙_}
 use Prim.Native.Nat.{ℕ}

@@ -1,4 +1,4 @@
--- The band of the rules that a band of the code says.
+-- The rules' band with the numbers of a band of the code.
 -- Assumes nothing.
 use Rattle.rules.specs.HallLine.{Band as RuledBand, bandOf}
 use Rattle.hall.specs.declared.bands.Band.{Band}

@@ -1,4 +1,4 @@
--- What each case of an answer says: its number of the paper, and every value beside it. Every promise goes through these readings.
+-- What each case of an answer says: its number of the paper, and every value beside it. Every promise goes through these definitions.
 -- Assumes nothing.
 use Prim.Native.Nat.{ℕ}
 use Rattle.hall.specs.declared.answers.Refusal.{Refusal}

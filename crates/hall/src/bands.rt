@@ -89,7 +89,7 @@ impl Band {
         }
     }
 
-    // Whether the band holds a whole key: the first past its low end, if any.
+    // Whether the band holds a whole key: if it holds any, it holds the first past its low end.
     fn holds_whole_key(self) -> bool
         requires { ⌜ self .low .0 ≤ highestKey ⌝ }
         ensures { λ r. ⌜ r ≡ holdsWholeKey (said self) ⌝ }

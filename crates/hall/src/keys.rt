@@ -13,7 +13,7 @@ pub struct Key(pub u32);
 // A reading in counts, as given.
 pub struct Reading(pub u16);
 
-// A key that was made, or that there is none: a number was out of its range.
+// The key made, or that there is none, where a part is out of its range.
 pub enum Made {
     At(Key),
     NoSuchKey,
@@ -31,7 +31,7 @@ impl Key {
 
     const SENSORS: u32 = 32;
 
-    // A machine's first key.
+    // A machine's first key: its number times the keys per machine. There are machines 0 to 63.
     pub fn first_of(machine: u32) -> Made
         ensures { λ r. ⌜ madeSays r ≡ firstMade machine ⌝ }
     {
@@ -42,7 +42,7 @@ impl Key {
         }
     }
 
-    // The key of a machine's sensor at a reading.
+    // The key of a machine's sensor at a reading, where all three are in their ranges.
     pub fn of(machine: u32, sensor: u32, reading: Reading) -> Made
         ensures { λ r. ⌜ madeSays r ≡ keyMade machine sensor (reading .0) ⌝ }
     {

@@ -7,12 +7,13 @@ use mathlib.Core.Bool.{Bool, not}
 use mathlib.Core.Logic.{_↔_, Iff·trans, _⊎_, inl, inr, ⊎-elim, ⊎-map}
 use mathlib.Core.List.{List}
 use native.Mathlib.Omega.{arith}
+use lib.ListN.{length}
 use Rattle.rules.specs.HallLine.{Band}
 use Rattle.rules.specs.NodesLanesEdges.{Node, nodeOf, standsAt, levelAt, isEndOfSome, withNode}
 use Rattle.rules.specs.Profile.{Profile, hasNumber}
 use Rattle.rules.specs.Changes.{withBand, withEnds, inserted, nodesAtEnds, withoutWhere, removed}
 use Rattle.rules.proofs.Means.{Means, reworded, denied, not-means}
-use Rattle.rules.proofs.Lists.{In, Some, Each, in-kept, ascends-keep, in-placed, placed-ascends}
+use Rattle.rules.proofs.Lists.{In, Some, Each, in-kept, ascends-keep, length-keep, in-placed, placed-ascends}
 use Rattle.rules.proofs.NodesLanesEdges.{NodeAt, NoNodeAt, stands-at-means, EndOf, is-end-of-some-means, Asc, level-there, in-with-node, at-with-node, with-node-ascends}
 use Rattle.rules.proofs.Profile.{has-number-means, NumbersAsc}
 
@@ -153,6 +154,11 @@ module _ (p : Profile) (number : ℕ) where
   pub removed-nodes-ascend : (c : ℕ) → Asc c (p .nodes) → Asc c (removed p number .nodes)
   unfolding removed
   removed-nodes-ascend = nodes-left-ascend (hasNumber number) p
+
+  -- a remove makes no node
+  pub removed-nodes-fewer : length (removed p number .nodes) ≤ length (p .nodes)
+  unfolding removed withoutWhere nodesAtEnds
+  removed-nodes-fewer = length-keep _ (p .nodes)
 
   -- no band of another number comes or goes
   pub remove-keeps-others : (b : Band) → (b .number ≡ number → ⊥) → In b (removed p number .bands) ↔ In b (p .bands)

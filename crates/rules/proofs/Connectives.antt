@@ -1,4 +1,4 @@
--- Code joins two tests by `&&` and `||`; the rules join them by `and` and `or`, which is the same.
+-- Code's `&` and `|` on tests are `&&` and `||` in its proofs; the rules join tests by `and` and `or`, which is the same.
 -- Assumes nothing.
 use mathlib.Core.Path.{_≡_, refl}
 use mathlib.Core.Bool.{Bool, true, false, _&&_, _||_}

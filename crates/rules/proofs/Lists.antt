@@ -134,6 +134,15 @@ in-kept {f} {P} m x xs =
 pub in-keep : {A : Type 0} (f : A → Bool) (x : A) (xs : List A) → In x (keep f xs) ↔ (In x xs × (f x ≡ true))
 in-keep f x xs = in-kept (λ y. itself (f y)) x xs
 
+-- what is kept is no more than there was
+pub length-keep : {A : Type 0} (f : A → Bool) (xs : List A) → length (keep f xs) ≤ length xs
+length-keep f [] = omega arith
+length-keep f (x ∷ xs) = go (f x) (length-keep f xs)
+  where
+    go : (t : Bool) → length (keep f xs) ≤ length xs → length (addIf t x (keep f xs)) ≤ suc (length xs)
+    go true h = omega arith
+    go false h = omega arith
+
 -- some element is so, or none is
 pub some-or-none : {A : Type 0} {f : A → Bool} {P : A → Type 0} → ((x : A) → Means (f x) (P x)) → (xs : List A)
     → Some P xs ⊎ Each (λ x. P x → ⊥) xs
