@@ -5,7 +5,7 @@ use mathlib.Core.List.{[]}
 use Rattle.rules.specs.Computes.{computes}
 use Rattle.rules.specs.BenchTable.{table, wrongFrom}
 
--- no row of the table is wrong; where one were, its place in the table would stand in the error
+-- no row of the table is wrong; where the check refuses this, stating it of a part of the table finds the row
 pub bench-table : wrongFrom 1 table ≡ []
 unfolding computes
 bench-table = refl
