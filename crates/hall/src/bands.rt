@@ -97,12 +97,12 @@ impl Band {
         self.holds(self.first_past())
     }
 
-    // Whether both written ends are where the scope allows them.
+    // Whether both written ends are among the machine's own keys, where the scope is a machine.
     fn within_scope(self) -> bool
         ensures { λ r. ⌜ r ≡ withinScope (said self) ⌝ }
     {
         let both_own = self.low.belongs_to(self.scope) & self.high.belongs_to(self.scope);
-        (self.scope == Band::HOUSE) | both_own
+        !(self.scope < Band::HOUSE) | both_own
     }
 }
 

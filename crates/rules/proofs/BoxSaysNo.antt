@@ -8,13 +8,14 @@ use mathlib.Core.Logic.{_↔_, Iff·trans, _⊎_, inl, inr}
 use mathlib.Core.List.{List, [], _∷_, _++_}
 use native.Mathlib.Omega.{arith}
 use lib.ListN.{length}
-use Rattle.rules.specs.HallLine.{Band, highestKey, highestBandNumber, house, holds, holdsWholeKey, withinScope}
+use borrow.Author.Tests.{eq-eqb, ne-eqb}
+use Rattle.rules.specs.HallLine.{Band, machines, isMachine, highestKey, highestBandNumber, house, holds, holdsWholeKey, withinScope}
 use Rattle.rules.specs.NodesLanesEdges.{lanes, isLevel, standsAt, levelAt}
 use Rattle.rules.specs.Profile.{Profile, isLive}
 use Rattle.rules.specs.Marks.{marksInUse}
 use Rattle.rules.specs.Changes.{inserted, removed}
 use Rattle.rules.specs.Room.{Room, roomInRange}
-use Rattle.rules.specs.BoxSaysNo.{TableLine, lowest, sizesWrong, notSound, scopeAbove, numberAbove, keyAbove, endAbove, holdsNone, endElsewhere, levelWrong, numberLive, numberNotLive, scopeOther, nodesExceed, marksExceed, noNode, noLane, bandLines, insertLines, removeLines, stabLines, bandReadLines, edgeReadLines, nodeReadLines, keyFault, bandFault, faultOf, insertRefusal, removeRefusal, emptyRefusal, stabRefusal, bandReadRefusal, edgeReadRefusal, nodeReadRefusal, roomReadRefusal}
+use Rattle.rules.specs.BoxSaysNo.{TableLine, lowest, sizesWrong, notSound, scopeAbove, numberAbove, keyAbove, endAbove, holdsNone, endElsewhere, levelWrong, numberLive, numberNotLive, scopeOther, nodesExceed, marksExceed, noNode, noLane, bandLines, insertLines, removeLines, stabLines, bandReadLines, edgeReadLines, nodeReadLines, keyFault, bandFault, faultOf, insertRefusal, removeRefusal, emptyRefusal, stabRefusal, bandReadRefusal, edgeReadRefusal, nodeReadRefusal, roomReadRefusal, changed, answered}
 use Rattle.rules.proofs.Means.{Means, Fails, never, reworded, itself, denied, not-means, not-fails, and-means, and-fails, and3-means, or-means, or-fails, implies-fails, lt-means, lt-fails, le-means, le-fails, eq-means}
 use Rattle.rules.proofs.Lists.{Some, Each, some-cons, each-cons, any-means, any-fails}
 use Rattle.rules.proofs.HallLine.{Own, own-key-means, holds-whole-key-means}
@@ -61,12 +62,12 @@ holds-none-means b = reworded (not-means (denied (holds-whole-key-means b))) (λ
 pub end-elsewhere-means :
     (b : Band)
     → Means (endElsewhere b .applies)
-    ((b .scope ≡ house → ⊥) × ((Own (b .scope) (b .low) → ⊥) ⊎ (Own (b .scope) (b .high) → ⊥)))
-unfolding withinScope
+    ((b .scope < machines) × ((Own (b .scope) (b .low) → ⊥) ⊎ (Own (b .scope) (b .high) → ⊥)))
+unfolding withinScope isMachine
 end-elsewhere-means b =
     not-means
     (or-fails
-    (denied (eq-means (b .scope) house))
+    (not-fails (lt-means (b .scope) machines))
     (and-fails (denied (own-key-means (b .scope) (b .low))) (denied (own-key-means (b .scope) (b .high)))))
 
 -- 7
@@ -371,3 +372,21 @@ module _ (sizesRight : Bool) where
         (line-zero 4 (omega arith) (lt-fails highestKey k)
         (line-zero 13 (omega arith) (not-fails (stands-at-means k (p .nodes)))
         (last-zero 13 (omega arith) (not-fails (lt-means i (levelAt k (p .nodes)))))))
+
+-- ---- what a call comes to
+
+-- an accepted change leaves the profile after it ..
+pub accepted-changes : (refusal : ℕ) (before after : Profile) → refusal ≡ 0 → changed refusal before after .profile ≡ after
+accepted-changes refusal before after z = rw (eq-eqb refusal 0 z)
+
+-- .. and a refused one all as it was
+pub refused-unchanged : (refusal : ℕ) (before after : Profile) → (refusal ≡ 0 → ⊥) → changed refusal before after .profile ≡ before
+refused-unchanged refusal before after h = rw (ne-eqb refusal 0 h)
+
+-- a stab or readout that is not refused answers what is read ..
+pub accepted-answers : {A : Type 0} (refusal : ℕ) (zeros a : A) → refusal ≡ 0 → answered refusal zeros a .answer ≡ a
+accepted-answers refusal zeros a z = rw (eq-eqb refusal 0 z)
+
+-- .. and a refused one zeros
+pub refused-zeros : {A : Type 0} (refusal : ℕ) (zeros a : A) → (refusal ≡ 0 → ⊥) → answered refusal zeros a .answer ≡ zeros
+refused-zeros refusal zeros a h = rw (ne-eqb refusal 0 h)

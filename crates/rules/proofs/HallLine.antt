@@ -10,8 +10,8 @@ use native.Mathlib.Omega.{arith}
 use native.Mathlib.Nat.{eq-or-lt-of-le}
 use lib.Dec.{eqb}
 use Rattle.rules.specs.Connectives.{_and_, _or_}
-use Rattle.rules.specs.HallLine.{machines, sensors, readings, highestKey, keysPerMachine, house, partsInRange, keyOf, firstKey, ownKey, Band, bandOf, pastLow, beforeHigh, holds, firstPast, holdsWholeKey, withinScope}
-use Rattle.rules.proofs.Means.{Means, same-means, passes-or-fails, itself, and-means, and3-means, or-means, lt-means, le-means, eq-means}
+use Rattle.rules.specs.HallLine.{machines, sensors, readings, highestKey, keysPerMachine, house, partsInRange, keyOf, firstKey, ownKey, Band, bandOf, pastLow, beforeHigh, holds, firstPast, holdsWholeKey, isMachine, withinScope}
+use Rattle.rules.proofs.Means.{Means, same-means, passes-or-fails, itself, and-means, and3-means, or-means, lt-means, le-means, eq-means, not-means, lt-fails}
 
 pub parts-in-range-means : (m s r : ℕ) → Means (partsInRange m s r) ((m < machines) × (s < sensors) × (r < readings))
 unfolding partsInRange
@@ -133,10 +133,10 @@ module _ (b : Band) where
       held : (k : ℕ) → Past b k × Before b k → holds b (firstPast b) ≡ true
       held k h = holds-means b (firstPast b) .test (first-past-low, before-high-below (firstPast b) k (first-past-least k (h .0)) (h .1))
 
-  pub within-scope-means : Means (withinScope b) ((b .scope ≡ house) ⊎ (Own (b .scope) (b .low) × Own (b .scope) (b .high)))
-  unfolding withinScope
+  pub within-scope-means : Means (withinScope b) ((machines ≤ b .scope) ⊎ (Own (b .scope) (b .low) × Own (b .scope) (b .high)))
+  unfolding withinScope isMachine
   within-scope-means =
-      or-means (eq-means (b .scope) house) (and-means (own-key-means (b .scope) (b .low)) (own-key-means (b .scope) (b .high)))
+      or-means (not-means (lt-fails (b .scope) machines)) (and-means (own-key-means (b .scope) (b .low)) (own-key-means (b .scope) (b .high)))
 
   -- a machine's band holds only that machine's keys
   pub scope-keeps : b .scope < machines → withinScope b ≡ true → (k : ℕ) → holds b k ≡ true → ownKey (b .scope) k ≡ true

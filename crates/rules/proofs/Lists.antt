@@ -12,7 +12,7 @@ use lib.Dec.{ltb}
 use lib.ListN.{length}
 use borrow.Author.Tests.{ltb-true, ltb-false}
 use Rattle.rules.specs.Connectives.{oneIf}
-use Rattle.rules.specs.Lists.{addIf, any, all, keep, firstOf, countIf, member, distinct, someLane, placed}
+use Rattle.rules.specs.Lists.{addIf, any, all, keep, firstOf, countIf, member, distinct, someLane, placed, sameNumbers}
 use Rattle.rules.proofs.Means.{Fails, Means, and-fails, and-means, denied, eq-means, itself, never, not-means, or-fails, or-means, passes-or-fails, reworded}
 
 -- ---- lists
@@ -89,6 +89,13 @@ find-means {x} m xs = reworded (any-means m xs) (λ s. subst (λ y. In y xs) (s 
 
 pub member-means : (n : ℕ) (xs : List ℕ) → Means (member n xs) (In n xs)
 member-means n xs = find-means (λ x. reworded (eq-means n x) sym sym) xs
+
+pub same-numbers-means : (xs ys : List ℕ) → Means (sameNumbers xs ys) (xs ≡ ys)
+same-numbers-means [] [] = record { fact = λ e. refl; test = λ p. refl }
+same-numbers-means [] (y ∷ ys) = record { fact = never; test = λ p. let z : _≡_ {A = ℕ} 0 1 = cc in absurd (omega arith) }
+same-numbers-means (x ∷ xs) [] = record { fact = never; test = λ p. let z : _≡_ {A = ℕ} 0 1 = cc in absurd (omega arith) }
+same-numbers-means (x ∷ xs) (y ∷ ys) =
+    reworded (and-means (eq-means x y) (same-numbers-means xs ys)) (λ h i. h .0 i ∷ h .1 i) (λ p. (cc, cc))
 
 -- no number stands twice
 abbrev pub Distinct : List ℕ → Type 0

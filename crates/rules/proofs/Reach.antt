@@ -1,5 +1,5 @@
--- "What one call can reach": which nodes are made, dropped or present throughout, how far a stretch runs, what lies in one, and which marks
--- stand, to and from membership and arithmetic; so that the Bool rule says what the paper says with its quantifiers.
+-- "What one call can reach": which nodes are made, dropped or present throughout, how far a stretch runs, what lies in one, what bears a
+-- mark and when answers are alike, to and from membership and arithmetic; so that the Bool rule says what the paper says with its quantifiers.
 -- Assumes nothing.
 use Prim.Native.Nat.{ℕ, max, min, _≤_, _<_}
 use mathlib.Core.Path.{_≡_, refl, sym, _∙_, ap, subst}
@@ -10,13 +10,14 @@ use native.Mathlib.Omega.{arith}
 use lib.Dec.{eqb}
 use Rattle.rules.specs.Connectives.{_and_}
 use Rattle.rules.specs.Lists.{keep}
-use Rattle.rules.specs.HallLine.{Band, highestKey}
+use Rattle.rules.specs.HallLine.{highestKey}
 use Rattle.rules.specs.NodesLanesEdges.{Node, nodeOf, Edge, edgeOf, edgesIn, lanes}
 use Rattle.rules.specs.Profile.{Profile}
-use Rattle.rules.specs.Marks.{edgeMarked, nodeMarked}
-use Rattle.rules.specs.Reach.{present, presentBoth, madeOrDropped, Stretch, nearestBefore, nearestAfter, stretchOf, liesIn, strictlyInside, edgeReached, keyReached, edgeMarkStands, nodeMarkStands, losesInLane, losesOnNode, keepsMarks, reachesOnlyStretches}
-use Rattle.rules.proofs.Means.{Means, Fails, reworded, itself, denied, not-means, and-means, or-means, then-fails, implies-fails, lt-means, le-means, eq-means, at-most-or-above}
-use Rattle.rules.proofs.Lists.{In, Some, Each, each-cons, any-means, any-fails, all-means, find-means, in-kept, some-or-none, in-append, lane-fails}
+use Rattle.rules.specs.Marks.{markedOnEdge, markedOnNode}
+use Rattle.rules.specs.Search.{stabOf}
+use Rattle.rules.specs.Reach.{present, presentBoth, madeOrDropped, Stretch, nearestBefore, nearestAfter, stretchOf, liesIn, strictlyInside, edgeReached, keyReached, edgeBears, nodeBears, answersAlike, losesInLane, losesOnNode, keepsMarks, reachesOnlyStretches}
+use Rattle.rules.proofs.Means.{Means, Fails, reworded, denied, not-means, and-means, and3-means, or-means, then-fails, implies-fails, lt-means, le-means, eq-means, at-most-or-above}
+use Rattle.rules.proofs.Lists.{In, Some, Each, each-cons, any-means, any-fails, all-means, find-means, member-means, same-numbers-means, in-kept, some-or-none, in-append, lane-fails}
 use Rattle.rules.proofs.NodesLanesEdges.{NodeAt, stands-at-means}
 use Rattle.rules.proofs.Profile.{has-number-means}
 
@@ -147,21 +148,21 @@ pub strictly-inside-means : (k : ℕ) (s : Stretch) → Means (strictlyInside k 
 unfolding strictlyInside
 strictly-inside-means k s = and-means (lt-means (s .from) k) (lt-means k (s .to))
 
-module _ (both changed : List Node) where
-  pub edge-reached-means : (e : Edge) → Means (edgeReached both changed e) (Some (λ n. LiesIn e (stretchOf both n)) changed)
+module _ (both touched : List Node) where
+  pub edge-reached-means : (e : Edge) → Means (edgeReached both touched e) (Some (λ n. LiesIn e (stretchOf both n)) touched)
   unfolding edgeReached
-  edge-reached-means e = any-means (λ n. lies-in-means e (stretchOf both n)) changed
+  edge-reached-means e = any-means (λ n. lies-in-means e (stretchOf both n)) touched
 
-  pub key-reached-means : (k : ℕ) → Means (keyReached both changed k) (Some (λ n. StrictlyInside k (stretchOf both n)) changed)
+  pub key-reached-means : (k : ℕ) → Means (keyReached both touched k) (Some (λ n. StrictlyInside k (stretchOf both n)) touched)
   unfolding keyReached
-  key-reached-means k = any-means (λ n. strictly-inside-means k (stretchOf both n)) changed
+  key-reached-means k = any-means (λ n. strictly-inside-means k (stretchOf both n)) touched
 
--- ---- which marks stand
+-- ---- what bears a mark
 
-module _ (ns : List Node) (b : Band) where
-  pub edge-mark-stands-means : (i : ℕ) (e : Edge) → Means (edgeMarkStands ns b i e) (In e (edgesIn i ns) × (edgeMarked ns b i e ≡ true))
-  unfolding edgeMarkStands
-  edge-mark-stands-means i e = and-means (find-means same (edgesIn i ns)) (itself (edgeMarked ns b i e))
+module _ (p : Profile) (number : ℕ) where
+  pub edge-bears-means : (i : ℕ) (e : Edge) → Means (edgeBears p i e number) (In e (edgesIn i (p .nodes)) × In number (markedOnEdge p i e))
+  unfolding edgeBears
+  edge-bears-means i e = and-means (find-means same (edgesIn i (p .nodes))) (member-means number (markedOnEdge p i e))
     where
       same : (f : Edge) → Means (eqb (f .from) (e .from) and eqb (f .to) (e .to)) (f ≡ e)
       same f =
@@ -170,52 +171,52 @@ module _ (ns : List Node) (b : Band) where
           (λ h j. edgeOf (h .0 j) (h .1 j))
           (λ q. (ap (λ g. g .from) q, ap (λ g. g .to) q))
 
-  pub node-mark-stands-means : (k : ℕ) → Means (nodeMarkStands ns b k) (NodeAt k ns × (nodeMarked ns b k ≡ true))
-  unfolding nodeMarkStands
-  node-mark-stands-means k = and-means (stands-at-means k ns) (itself (nodeMarked ns b k))
+  pub node-bears-means : (k : ℕ) → Means (nodeBears p k number) (NodeAt k (p .nodes) × In number (markedOnNode p k))
+  unfolding nodeBears
+  node-bears-means k = and-means (stands-at-means k (p .nodes)) (member-means number (markedOnNode p k))
 
 -- ---- what is kept
 
-module _ (both changed before after : List Node) (b : Band) where
-  -- each mark of the band on an edge of lane i that is not reached stands after the call too
+module _ (both touched : List Node) (p q : Profile) (number : ℕ) where
+  -- each mark of the number on an edge of lane i that is not reached stands after the call too
   abbrev pub KeepsInLane : ℕ → Type 0
   KeepsInLane i =
       Each
-      (λ e. (Some (λ n. LiesIn e (stretchOf both n)) changed → ⊥)
-      → edgeMarked before b i e ≡ true
-      → In e (edgesIn i after) × (edgeMarked after b i e ≡ true))
-      (edgesIn i before)
+      (λ e. (Some (λ n. LiesIn e (stretchOf both n)) touched → ⊥)
+      → In e (edgesIn i (p .nodes)) × In number (markedOnEdge p i e)
+      → In e (edgesIn i (q .nodes)) × In number (markedOnEdge q i e))
+      (edgesIn i (p .nodes))
 
   -- and so does each mark on a node that is not reached
   abbrev pub KeepsOnNodes : Type 0
   KeepsOnNodes =
       Each
-      (λ n. (Some (λ m. StrictlyInside (n .key) (stretchOf both m)) changed → ⊥)
-      → nodeMarked before b (n .key) ≡ true
-      → NodeAt (n .key) after × (nodeMarked after b (n .key) ≡ true))
-      before
+      (λ n. (Some (λ m. StrictlyInside (n .key) (stretchOf both m)) touched → ⊥)
+      → NodeAt (n .key) (p .nodes) × In number (markedOnNode p (n .key))
+      → NodeAt (n .key) (q .nodes) × In number (markedOnNode q (n .key)))
+      (p .nodes)
 
-  pub loses-in-lane-fails : (i : ℕ) → Fails (losesInLane both changed before after b i) (KeepsInLane i)
+  pub loses-in-lane-fails : (i : ℕ) → Fails (losesInLane both touched p q number i) (KeepsInLane i)
   unfolding losesInLane
   loses-in-lane-fails i =
       any-fails
-      (λ e. then-fails (not-means (denied (edge-reached-means both changed e)))
-      (implies-fails (itself (edgeMarked before b i e)) (edge-mark-stands-means after b i e)))
-      (edgesIn i before)
+      (λ e. then-fails (not-means (denied (edge-reached-means both touched e)))
+      (implies-fails (edge-bears-means p number i e) (edge-bears-means q number i e)))
+      (edgesIn i (p .nodes))
 
-  pub loses-on-node-fails : Fails (losesOnNode both changed before after b) KeepsOnNodes
+  pub loses-on-node-fails : Fails (losesOnNode both touched p q number) KeepsOnNodes
   unfolding losesOnNode
   loses-on-node-fails =
       any-fails
-      (λ n. then-fails (not-means (denied (key-reached-means both changed (n .key))))
-      (implies-fails (itself (nodeMarked before b (n .key))) (node-mark-stands-means after b (n .key))))
-      before
+      (λ n. then-fails (not-means (denied (key-reached-means both touched (n .key))))
+      (implies-fails (node-bears-means p number (n .key)) (node-bears-means q number (n .key))))
+      (p .nodes)
 
   -- all such marks, in every lane and on every node
   abbrev pub KeepsMarks : Type 0
   KeepsMarks = ((i : ℕ) → i < lanes → KeepsInLane i) × KeepsOnNodes
 
-  pub keeps-marks-means : Means (keepsMarks both changed before after b) KeepsMarks
+  pub keeps-marks-means : Means (keepsMarks both touched p q number) KeepsMarks
   unfolding keepsMarks
   keeps-marks-means =
       reworded
@@ -223,18 +224,28 @@ module _ (both changed before after : List Node) (b : Band) where
       (λ h. (λ i l. h .0 i (omega arith) (omega arith), h .1))
       (λ h. (λ i l u. h .0 i (omega arith), h .1))
 
--- between two node lists the band keeps all such marks, and gains none
-abbrev pub SameOutside : List Node → List Node → Band → Type 0
-SameOutside ms ns b =
-    KeepsMarks (presentBoth ms ns) (madeOrDropped ms ns) ms ns b × KeepsMarks (presentBoth ms ns) (madeOrDropped ms ns) ns ms b
+-- bands other than the call's keep all such marks from p to q, and gain none
+abbrev pub OnlyStretchesReached : ℕ → Profile → Profile → Type 0
+OnlyStretchesReached number p q =
+    Each (λ b. (b .number ≡ number) ⊎ KeepsMarks (presentBoth (p .nodes) (q .nodes)) (madeOrDropped (p .nodes) (q .nodes)) p q (b .number)) (p .bands)
+    × Each (λ b. (b .number ≡ number) ⊎ KeepsMarks (presentBoth (p .nodes) (q .nodes)) (madeOrDropped (p .nodes) (q .nodes)) q p (b .number)) (q .bands)
 
-pub reaches-only-stretches-means : (number : ℕ) (p q : Profile)
-    → Means (reachesOnlyStretches number p q) (Each (λ b. (b .number ≡ number) ⊎ SameOutside (p .nodes) (q .nodes) b) (p .bands))
+pub reaches-only-stretches-means : (number : ℕ) (p q : Profile) → Means (reachesOnlyStretches number p q) (OnlyStretchesReached number p q)
 unfolding reachesOnlyStretches
 reaches-only-stretches-means number p q =
     let both : List Node = presentBoth (p .nodes) (q .nodes) in
-    let changed : List Node = madeOrDropped (p .nodes) (q .nodes) in
-    all-means
-    (λ b. or-means (has-number-means number b)
-    (and-means (keeps-marks-means both changed (p .nodes) (q .nodes) b) (keeps-marks-means both changed (q .nodes) (p .nodes) b)))
-    (p .bands)
+    let touched : List Node = madeOrDropped (p .nodes) (q .nodes) in
+    and-means
+    (all-means (λ b. or-means (has-number-means number b) (keeps-marks-means both touched p q (b .number))) (p .bands))
+    (all-means (λ b. or-means (has-number-means number b) (keeps-marks-means both touched q p (b .number))) (q .bands))
+
+-- two profiles answer the same at a key
+pub answers-alike-means : (p q : Profile) (k : ℕ)
+    → Means (answersAlike p q k)
+    ((stabOf p k .flags ≡ stabOf q k .flags) × (stabOf p k .count ≡ stabOf q k .count) × (stabOf p k .met ≡ stabOf q k .met))
+unfolding answersAlike
+answers-alike-means p q k =
+    and3-means
+    (same-numbers-means (stabOf p k .flags) (stabOf q k .flags))
+    (eq-means (stabOf p k .count) (stabOf q k .count))
+    (eq-means (stabOf p k .met) (stabOf q k .met))

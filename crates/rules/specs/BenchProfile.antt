@@ -3,7 +3,8 @@
 use Prim.Native.Nat.{ℕ}
 use mathlib.Core.Bool.{true, false}
 use mathlib.Core.List.{List, [], _∷_}
-use Rattle.rules.specs.HallLine.{Band, bandOf}
+use Rattle.rules.specs.HallLine.{Band, bandOf, house}
+use Rattle.rules.specs.NodesLanesEdges.{Node, withNode}
 use Rattle.rules.specs.Profile.{Profile, emptyProfile}
 use Rattle.rules.specs.Room.{Room, roomOf, roomInRange}
 use Rattle.rules.specs.BoxSaysNo.{Change, insertOutcome, removeOutcome}
@@ -62,7 +63,7 @@ p9 room =
     ∷ insert (closed 3 0 30 30) 1 1
     ∷ [])
 
--- two tall edgesAlong with one almost as tall between them
+-- two tall neighbours with one almost as tall between them
 abbrev pub tall : Profile
 tall = lived wide emptyProfile (insert (closed 1 0 10 50) 8 8 ∷ insert (closed 2 0 20 20) 7 7 ∷ [])
 
@@ -77,3 +78,35 @@ beside = lived wide emptyProfile (insert (closed 1 0 10 90) 1 1 ∷ insert (clos
 -- .. until a node of level 2 at 60 lifts the mark of edge 30-40 to lane 1; edge 10-30 still bears it
 abbrev pub lifted : Profile
 lifted = lived wide beside (insert (closed 3 0 60 60) 2 2 ∷ [])
+
+-- a node of level 2 between two of level 3
+abbrev pub middle : Profile
+middle = lived wide emptyProfile (insert (closed 1 0 10 50) 3 3 ∷ insert (closed 2 0 20 20) 2 2 ∷ [])
+
+-- marks in lanes 3 and 4
+abbrev pub high : Profile
+high = lived wide emptyProfile (insert (closed 1 0 10 50) 5 5 ∷ insert (closed 2 0 50 90) 4 4 ∷ [])
+
+-- a node at the first key of the line, lower than the next; the band closed there, and open there
+abbrev pub first : Profile
+first = lived wide emptyProfile (insert (closed 1 0 0 9) 1 2 ∷ [])
+
+abbrev pub firstOpen : Profile
+firstOpen = lived wide emptyProfile (insert (openLow 1 0 0 9) 1 2 ∷ [])
+
+-- machine and house scopes, numbers 0 and 1,023 and one in the second flag word, a band open at both ends
+abbrev pub mixed : Profile
+mixed =
+    lived wide emptyProfile
+    (insert (closed 0 1 32768 65535) 1 1
+    ∷ insert (open′ 100 house 32768 70000) 3 4
+    ∷ insert (openHigh 1023 house 5 32768) 2 2
+    ∷ [])
+
+-- a band around a stretch in which one call makes two nodes
+abbrev pub around : Profile
+around = lived wide emptyProfile (insert (closed 1 0 100 400) 1 1 ∷ [])
+
+-- the bench profile's nodes and one of level 2 made at 260
+abbrev pub bench260 : List Node
+bench260 = withNode 260 2 (bench .nodes)

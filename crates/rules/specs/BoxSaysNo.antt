@@ -11,7 +11,7 @@ use Rattle.rules.specs.Connectives.{_and_, _or_}
 use Rattle.rules.specs.Lists.{any}
 use Rattle.rules.specs.HallLine.{Band, highestKey, highestBandNumber, house, holdsWholeKey, withinScope}
 use Rattle.rules.specs.NodesLanesEdges.{isLevel, standsAt, levelAt}
-use Rattle.rules.specs.Profile.{Profile, hasNumber, isLive}
+use Rattle.rules.specs.Profile.{Profile, hasNumber, isLive, emptyProfile}
 use Rattle.rules.specs.Marks.{marksInUse}
 use Rattle.rules.specs.Flags.{flagWordCount}
 use Rattle.rules.specs.Search.{Stab, stabOf}
@@ -105,9 +105,13 @@ keyFault k = lowest (keyAbove k ∷ [])
 unfoldable pub bandFault : Band → ℕ
 bandFault b = lowest (bandLines b)
 
+-- the faults of a band and the levels given for its ends: 2 to 7
+abbrev pub faultLines : Band → ℕ → ℕ → List TableLine
+faultLines b lowLevel highLevel = bandLines b ++ levelWrong lowLevel highLevel ∷ []
+
 -- the lowest of 2 to 7 that applies to a band and the levels given for its ends
 unfoldable pub faultOf : Band → ℕ → ℕ → ℕ
-faultOf b lowLevel highLevel = lowest (bandLines b ++ levelWrong lowLevel highLevel ∷ [])
+faultOf b lowLevel highLevel = lowest (faultLines b lowLevel highLevel)
 
 -- an empty profile is refused only by 1 (sizes), whatever the memory held
 abbrev pub emptyLines : Bool → List TableLine
@@ -120,9 +124,8 @@ emptyRefusal sizesRight = lowest (emptyLines sizesRight)
 abbrev pub insertLines : Bool → Bool → Room → Profile → Band → ℕ → ℕ → List TableLine
 insertLines sizesRight sound room p b lowLevel highLevel =
     notSound sizesRight sound
-    ∷ bandLines b
-    ++ levelWrong lowLevel highLevel
-    ∷ numberLive p (b .number)
+    ∷ faultLines b lowLevel highLevel
+    ++ numberLive p (b .number)
     ∷ nodesExceed room (inserted p b lowLevel highLevel)
     ∷ marksExceed room (inserted p b lowLevel highLevel)
     ∷ []
@@ -153,6 +156,10 @@ pub record Change : Type 0 where
 -- a refused change leaves all as it was
 abbrev pub changed : ℕ → Profile → Profile → Change
 changed refusal before after = record { refusal = refusal; profile = cond (eqb refusal 0) after before }
+
+-- making an empty profile, whatever the memory held
+unfoldable pub emptyOutcome : Bool → Profile → Change
+emptyOutcome sizesRight p = changed (emptyRefusal sizesRight) p emptyProfile
 
 unfoldable pub insertOutcome : Bool → Bool → Room → Profile → Band → ℕ → ℕ → Change
 insertOutcome sizesRight sound room p b lowLevel highLevel =

@@ -1,7 +1,7 @@
 -- "The hall line": keys, bands, which keys a band holds, whose keys they are.
 -- Assumes nothing.
 use Prim.Native.Nat.{ℕ, _+_, _*_}
-use mathlib.Core.Bool.{Bool, cond}
+use mathlib.Core.Bool.{Bool, not, cond}
 use lib.Dec.{leb, ltb, eqb}
 use Rattle.rules.specs.Connectives.{_and_, _or_}
 
@@ -71,7 +71,7 @@ beforeHigh b k = ltb k (b .high) or (eqb k (b .high) and b .highClosed)
 unfoldable pub holds : Band → ℕ → Bool
 holds b k = pastLow b k and beforeHigh b k
 
--- the first whole key past the low end
+-- the first whole key past the low end, which is the end itself where it is closed
 unfoldable pub firstPast : Band → ℕ
 firstPast b = cond (b .lowClosed) (b .low) (b .low + 1)
 
@@ -79,6 +79,10 @@ firstPast b = cond (b .lowClosed) (b .low) (b .low + 1)
 unfoldable pub holdsWholeKey : Band → Bool
 holdsWholeKey b = holds b (firstPast b)
 
--- a house band, or both written ends are among the machine's own keys, open ends too
+-- the scope is a machine
+unfoldable pub isMachine : ℕ → Bool
+isMachine scope = ltb scope machines
+
+-- a machine's band has both written ends among that machine's own keys, open ends too
 unfoldable pub withinScope : Band → Bool
-withinScope b = eqb (b .scope) house or (ownKey (b .scope) (b .low) and ownKey (b .scope) (b .high))
+withinScope b = not (isMachine (b .scope)) or (ownKey (b .scope) (b .low) and ownKey (b .scope) (b .high))

@@ -7,7 +7,7 @@
 --   "Sound memory"                         SoundMemory, Room
 --   "When the box says no"                 BoxSaysNo, BenchCard
 --   "What one call can reach"              Reach
---   "The bench profile"                    BenchProfile, BenchTable
+--   "The bench profile"                    BenchProfile, BenchRow, BenchTable
 --   "Errors that look right"               BenchTable
 -- Connectives and Lists have the plain tests that they are worded with, and Computes opens them all at once.
 pub mod Connectives
@@ -26,5 +26,6 @@ pub mod SoundMemory
 pub mod BenchCard
 pub mod Reach
 pub mod BenchProfile
+pub mod BenchRow
 pub mod BenchTable
 pub mod Computes

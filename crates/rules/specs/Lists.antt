@@ -57,6 +57,13 @@ module _ {A : Type 0} where
 abbrev pub member : ℕ → List ℕ → Bool
 member n xs = any (eqb n) xs
 
+-- two lists have the same numbers at the same places
+abbrev pub sameNumbers : List ℕ → List ℕ → Bool
+sameNumbers [] [] = true
+sameNumbers [] (y ∷ ys) = false
+sameNumbers (x ∷ xs) [] = false
+sameNumbers (x ∷ xs) (y ∷ ys) = eqb x y and sameNumbers xs ys
+
 -- no number stands twice in the list
 abbrev pub distinct : List ℕ → Bool
 distinct [] = true

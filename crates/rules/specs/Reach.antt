@@ -1,27 +1,28 @@
 -- "What one call can reach": answers at other machines' keys, and the stretches outside which other bands keep their marks.
 -- Assumes nothing.
-use Prim.Native.Nat.{ℕ, max, min, _≤_}
+use Prim.Native.Nat.{ℕ, max, min, _≤_, _<_}
 use mathlib.Core.Path.{_≡_}
-use mathlib.Core.Bool.{Bool, false, not, cond}
+use mathlib.Core.Bool.{Bool, true, false, not, cond}
 use mathlib.Core.List.{List, [], _∷_, _++_}
 use lib.Dec.{leb, ltb, eqb}
 use Rattle.rules.specs.Connectives.{_and_, _or_}
-use Rattle.rules.specs.Lists.{any, all, keep}
-use Rattle.rules.specs.HallLine.{Band, highestKey, ownKey}
+use Rattle.rules.specs.Lists.{any, all, keep, member, sameNumbers}
+use Rattle.rules.specs.HallLine.{highestKey, machines, ownKey}
 use Rattle.rules.specs.NodesLanesEdges.{Node, Edge, edgesIn, inSomeLane, standsAt}
 use Rattle.rules.specs.Profile.{Profile, hasNumber}
-use Rattle.rules.specs.Marks.{edgeMarked, nodeMarked}
+use Rattle.rules.specs.Marks.{markedOnEdge, markedOnNode}
 use Rattle.rules.specs.Search.{stabOf}
 
 -- two profiles answer the same at a key: flags, count and marks met. Looks may differ
-pub record AnswersAlike (p q : Profile) (k : ℕ) : Type 0 where
-  pub flags : stabOf p k .flags ≡ stabOf q k .flags
-  pub count : stabOf p k .count ≡ stabOf q k .count
-  pub met : stabOf p k .met ≡ stabOf q k .met
+unfoldable pub answersAlike : Profile → Profile → ℕ → Bool
+answersAlike p q k =
+    sameNumbers (stabOf p k .flags) (stabOf q k .flags)
+    and eqb (stabOf p k .count) (stabOf q k .count)
+    and eqb (stabOf p k .met) (stabOf q k .met)
 
 -- a call of scope m below 64, if it is accepted, leaves answers the same at every key of every other machine
 abbrev pub OthersAlike : ℕ → Profile → Profile → Type 0
-OthersAlike m p q = (k : ℕ) → k ≤ highestKey → ownKey m k ≡ false → AnswersAlike p q k
+OthersAlike m p q = m < machines → (k : ℕ) → k ≤ highestKey → ownKey m k ≡ false → answersAlike p q k ≡ true
 
 -- the node is present in the list: at its key, with its level
 unfoldable pub present : List Node → Node → Bool
@@ -73,39 +74,38 @@ edgeReached both touched e = any (λ n. liesIn e (stretchOf both n)) touched
 unfoldable pub keyReached : List Node → List Node → ℕ → Bool
 keyReached both touched k = any (λ n. strictlyInside k (stretchOf both n)) touched
 
--- e is an edge of lane i that bears the band's mark
-unfoldable pub edgeMarkStands : List Node → Band → ℕ → Edge → Bool
-edgeMarkStands ns b i e = any (λ f. eqb (f .from) (e .from) and eqb (f .to) (e .to)) (edgesIn i ns) and edgeMarked ns b i e
+-- the number is marked on e, an edge of lane i
+unfoldable pub edgeBears : Profile → ℕ → Edge → ℕ → Bool
+edgeBears p i e number =
+    any (λ f. eqb (f .from) (e .from) and eqb (f .to) (e .to)) (edgesIn i (p .nodes)) and member number (markedOnEdge p i e)
 
--- a node stands at k and bears the band's mark
-unfoldable pub nodeMarkStands : List Node → Band → ℕ → Bool
-nodeMarkStands ns b k = standsAt k ns and nodeMarked ns b k
+-- the number is marked on a node, at k
+unfoldable pub nodeBears : Profile → ℕ → ℕ → Bool
+nodeBears p k number = standsAt k (p .nodes) and member number (markedOnNode p k)
 
--- the band loses a mark, between two node lists, on some edge of lane i that is not reached
-unfoldable pub losesInLane : List Node → List Node → List Node → List Node → Band → ℕ → Bool
-losesInLane both touched before after b i =
+-- the number loses a mark, from p to q, on some edge of lane i that is not reached
+unfoldable pub losesInLane : List Node → List Node → Profile → Profile → ℕ → ℕ → Bool
+losesInLane both touched p q number i =
     any
-    (λ e. not (edgeReached both touched e) and edgeMarked before b i e and not (edgeMarkStands after b i e))
-    (edgesIn i before)
+    (λ e. not (edgeReached both touched e) and edgeBears p i e number and not (edgeBears q i e number))
+    (edgesIn i (p .nodes))
 
--- the band loses a mark, between two node lists, on some node that is not reached
-unfoldable pub losesOnNode : List Node → List Node → List Node → List Node → Band → Bool
-losesOnNode both touched before after b =
+-- the number loses a mark, from p to q, on some node that is not reached
+unfoldable pub losesOnNode : List Node → List Node → Profile → Profile → ℕ → Bool
+losesOnNode both touched p q number =
     any
-    (λ n. not (keyReached both touched (n .key)) and nodeMarked before b (n .key) and not (nodeMarkStands after b (n .key)))
-    before
+    (λ n. not (keyReached both touched (n .key)) and nodeBears p (n .key) number and not (nodeBears q (n .key) number))
+    (p .nodes)
 
--- the band keeps every mark on edges not lying in such a stretch and on nodes not strictly inside one
-unfoldable pub keepsMarks : List Node → List Node → List Node → List Node → Band → Bool
-keepsMarks both touched before after b =
-    not (inSomeLane (losesInLane both touched before after b)) and not (losesOnNode both touched before after b)
+-- the number keeps every mark on edges not lying in such a stretch and on nodes not strictly inside one
+unfoldable pub keepsMarks : List Node → List Node → Profile → Profile → ℕ → Bool
+keepsMarks both touched p q number =
+    not (inSomeLane (losesInLane both touched p q number)) and not (losesOnNode both touched p q number)
 
--- each band but the call's own keeps every such mark, and gains none: the same read backwards
+-- bands other than the call's keep every such mark, and gain none: the same read backwards
 unfoldable pub reachesOnlyStretches : ℕ → Profile → Profile → Bool
 reachesOnlyStretches number p q =
     let both : List Node = presentBoth (p .nodes) (q .nodes) in
     let touched : List Node = madeOrDropped (p .nodes) (q .nodes) in
-    all
-    (λ b. hasNumber number b
-    or (keepsMarks both touched (p .nodes) (q .nodes) b and keepsMarks both touched (q .nodes) (p .nodes) b))
-    (p .bands)
+    all (λ b. hasNumber number b or keepsMarks both touched p q (b .number)) (p .bands)
+    and all (λ b. hasNumber number b or keepsMarks both touched q p (b .number)) (q .bands)
