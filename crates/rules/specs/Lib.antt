@@ -1,6 +1,6 @@
 -- The paper as definitions, under its own headings and in its words:
 --   "What is built"                        Profile, Changes, Readouts
---   "The hall line"                        HallLine
+--   "The hall line" (keys, bands)          HallLine
 --   "Nodes, lanes, edges"                  NodesLanesEdges
 --   "Marks"                                Marks
 --   "The search"                           Search, Flags
@@ -9,7 +9,10 @@
 --   "What one call can reach"              Reach
 --   "The bench profile"                    BenchProfile, BenchRow, BenchTable
 --   "Errors that look right"               BenchTable
--- Connectives and Lists have the plain tests that they are worded with, and Computes opens them all at once.
+-- Connectives and Lists have the plain tests that they are worded with. What the paper says of words in memory (places, which of them are
+-- free, the likeness of two memories) is not here: these rules know no memory.
+-- A definition marked `unfoldable` stays shut until a proof opens it by name, and `Computes` opens them all; an `abbrev` is always open.
+-- "Assumes nothing" at the head of a file says that it uses no axiom, and no hypothesis but those that each statement writes out.
 pub mod Connectives
 pub mod Lists
 pub mod HallLine
