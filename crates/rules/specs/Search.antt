@@ -17,7 +17,7 @@ pub data Here : Type 0 where
   header : Here
   on : ℕ → Here
 
--- where the search stands, the nodes after that place, and how many nodes it has stepped onto
+-- where the search stands, the nodes after that spot, and how many nodes it has stepped onto
 pub record Spot : Type 0 where
   pub here : Here
   pub ahead : List Node
@@ -48,7 +48,7 @@ dropTakes p i k (on x) (y ∷ ys) = onlyIf (ltb k y) (markedOnEdge p i (edgeOf x
 unfoldable pub nodeTakes : Profile → ℕ → List ℕ
 nodeTakes p k = onlyIf (standsAt k (p .nodes)) (markedOnNode p k)
 
--- what the search takes in the lowest m lanes, each begun where the lane above stopped
+-- what the search takes in the lowest m lanes, each begun where the lane above stopped, and then at a node at k
 abbrev pub takesFrom : Profile → ℕ → ℕ → Spot → List ℕ
 takesFrom p k zero at = nodeTakes p k
 takesFrom p k (suc i) at =
