@@ -10,14 +10,15 @@ use native.Mathlib.Omega.{arith}
 use lib.Dec.{eqb}
 use Rattle.rules.specs.Connectives.{_and_}
 use Rattle.rules.specs.Lists.{keep}
-use Rattle.rules.specs.HallLine.{highestKey}
+use Rattle.rules.specs.HallLine.{highestKey, machines, partsInRange, keyOf, ownKey}
 use Rattle.rules.specs.NodesLanesEdges.{Node, nodeOf, Edge, edgeOf, edgesIn, lanes}
 use Rattle.rules.specs.Profile.{Profile}
 use Rattle.rules.specs.Marks.{markedOnEdge, markedOnNode}
 use Rattle.rules.specs.Search.{stabOf}
-use Rattle.rules.specs.Reach.{present, presentBoth, madeOrDropped, Stretch, nearestBefore, nearestAfter, stretchOf, liesIn, strictlyInside, edgeReached, keyReached, edgeBears, nodeBears, answersAlike, losesInLane, losesOnNode, keepsMarks, reachesOnlyStretches}
-use Rattle.rules.proofs.Means.{Means, Fails, reworded, denied, not-means, and-means, and3-means, or-means, then-fails, implies-fails, lt-means, le-means, eq-means, at-most-or-above}
+use Rattle.rules.specs.Reach.{present, presentBoth, madeOrDropped, Stretch, nearestBefore, nearestAfter, stretchOf, liesIn, strictlyInside, edgeReached, keyReached, edgeBears, nodeBears, answersAlike, OthersAlike, losesInLane, losesOnNode, keepsMarks, reachesOnlyStretches}
+use Rattle.rules.proofs.Means.{Means, Fails, passes-or-fails, reworded, denied, not-means, and-means, and3-means, or-means, then-fails, implies-fails, lt-means, le-means, eq-means, at-most-or-above}
 use Rattle.rules.proofs.Lists.{In, Some, Each, each-cons, any-means, any-fails, all-means, find-means, member-means, same-numbers-means, in-kept, some-or-none, in-append, lane-fails}
+use Rattle.rules.proofs.HallLine.{key-on-line, key-is-its-machines, one-machine}
 use Rattle.rules.proofs.NodesLanesEdges.{NodeAt, stands-at-means}
 use Rattle.rules.proofs.Profile.{has-number-means}
 
@@ -249,3 +250,10 @@ answers-alike-means p q k =
     (same-numbers-means (stabOf p k .flags) (stabOf q k .flags))
     (eq-means (stabOf p k .count) (stabOf q k .count))
     (eq-means (stabOf p k .met) (stabOf q k .met))
+
+-- every key of every other machine: at each machine but m, each sensor and each reading
+pub others-at-every-key : (m : ℕ) (p q : Profile) → OthersAlike m p q → m < machines
+    → (n s r : ℕ) → partsInRange n s r ≡ true → (n ≡ m → ⊥) → answersAlike p q (keyOf n s r) ≡ true
+others-at-every-key m p q alike l n s r h other =
+    alike l (keyOf n s r) (key-on-line n s r h)
+    (⊎-elim (λ own. absurd (other (one-machine n m (keyOf n s r) (key-is-its-machines n s r h) own))) (λ e. e) (passes-or-fails (ownKey m (keyOf n s r))))
