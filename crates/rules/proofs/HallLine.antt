@@ -9,8 +9,7 @@ use mathlib.Core.Logic.{_⊎_, inl, inr, ⊎-elim}
 use native.Mathlib.Omega.{arith}
 use native.Mathlib.Nat.{eq-or-lt-of-le}
 use lib.Dec.{eqb}
-use Rattle.rules.specs.Connectives.{_and_, _or_}
-use Rattle.rules.specs.HallLine.{machines, sensors, readings, highestKey, keysPerMachine, house, partsInRange, keyOf, firstKey, ownKey, Band, bandOf, pastLow, beforeHigh, holds, firstPast, holdsWholeKey, isMachine, withinScope}
+use Rattle.rules.specs.HallLine.{machines, sensors, readings, highestKey, keysPerMachine, partsInRange, keyOf, firstKey, ownKey, Band, pastLow, beforeHigh, holds, firstPast, holdsWholeKey, isMachine, withinScope}
 use Rattle.rules.proofs.Means.{Means, same-means, passes-or-fails, itself, and-means, and3-means, or-means, lt-means, le-means, eq-means, not-means, lt-fails}
 
 pub parts-in-range-means : (m s r : ℕ) → Means (partsInRange m s r) ((m < machines) × (s < sensors) × (r < readings))
@@ -143,11 +142,3 @@ module _ (b : Band) where
   scope-keeps l w k h =
       let f = held-between b k h in
       own-key-means (b .scope) k .test (⊎-elim (λ e. absurd (omega arith)) (λ o. omega arith) (within-scope-means .fact w))
-
--- (3,4) holds no whole key, (3,5) holds 4, [7,7] holds 7
-pub whole-keys :
-    (holdsWholeKey (bandOf 0 house 3 4 false false) ≡ false)
-    × (holds (bandOf 0 house 3 5 false false) 4 ≡ true)
-    × (holds (bandOf 0 house 7 7 true true) 7 ≡ true)
-unfolding _and_ _or_ pastLow beforeHigh holds firstPast holdsWholeKey
-whole-keys = (refl, refl, refl)
