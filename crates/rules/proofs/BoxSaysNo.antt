@@ -138,7 +138,7 @@ lowest-enough (l ∷ ls) ys h = go (l .applies) refl (lowest-enough ls ys)
     go true e ih = rw e
     go false e ih = rw e (ih (λ z. h (lowest-next l ls e ∙ z)))
 
--- the lines' numbers ascend, the first at least c; edgesAlong may have one number
+-- the lines' numbers ascend, the first at least c; neighbours may have one number
 abbrev pub Ordered : ℕ → List TableLine → Type 0
 Ordered c [] = Unit {0}
 Ordered c (l ∷ ls) = (c ≤ l .refusal) × Ordered (l .refusal) ls

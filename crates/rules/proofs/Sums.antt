@@ -1,0 +1,136 @@
+-- Laws of sums and counts over lists and lanes: sums of equals, split sums, sums taken in the other order; when a count is 0 or 1.
+-- Assumes nothing.
+use Prim.Native.Nat.{ℕ, zero, suc, _+_, _-_, _≤_}
+use mathlib.Core.Path.{_≡_, refl, sym, _∙_}
+use mathlib.Core.Bool.{Bool, true, false, not}
+use mathlib.Core.Logic.{inl, inr, ⊎-elim}
+use mathlib.Core.List.{List, [], _∷_, _++_}
+use native.Mathlib.Omega.{arith}
+use lib.ListN.{length}
+use Rattle.rules.specs.Connectives.{_and_, _or_, oneIf}
+use Rattle.rules.specs.Lists.{any, keep, countIf, sumOf, someLane, sumLanes}
+use Rattle.rules.proofs.Means.{itself, passes-or-fails}
+use Rattle.rules.proofs.Lists.{In, Each, EachLane, length-made, length-keep, Ascends, ascends-from}
+
+-- ---- tests as numbers
+
+split-one : (s t : Bool) → oneIf s ≡ oneIf (s and t) + oneIf (s and not t)
+unfolding _and_
+split-one true true = refl
+split-one true false = refl
+split-one false t = refl
+
+here-or-higher : (s t : Bool) → oneIf (s and not t) + oneIf t ≡ oneIf (s or t)
+unfolding _and_ _or_
+here-or-higher true true = refl
+here-or-higher true false = refl
+here-or-higher false t = omega arith
+
+-- ---- sums over a list
+
+module _ {A : Type 0} where
+  -- equal numbers of each element make equal sums
+  pub sum-same : {f g : A → ℕ} (xs : List A) → Each (λ x. f x ≡ g x) xs → sumOf f xs ≡ sumOf g xs
+  sum-same [] h = refl
+  sum-same (x ∷ xs) h = omega (arith, h x (inl refl), sum-same xs (λ y i. h y (inr i)))
+
+  -- a sum of zeros is 0
+  pub sum-zero : (xs : List A) → sumOf (λ x. 0) xs ≡ 0
+  sum-zero [] = refl
+  sum-zero (x ∷ xs) = omega (arith, sum-zero xs)
+
+  -- the sum of two numbers of each element is the sum of their two sums
+  pub sum-plus : (f g : A → ℕ) (xs : List A) → sumOf (λ x. f x + g x) xs ≡ sumOf f xs + sumOf g xs
+  sum-plus f g [] = refl
+  sum-plus f g (x ∷ xs) = omega (arith, sum-plus f g xs)
+
+  -- the sum over a list joined of two is the sum of the sums over the two
+  pub sum-append : (f : A → ℕ) (xs ys : List A) → sumOf f (xs ++ ys) ≡ sumOf f xs + sumOf f ys
+  sum-append f [] ys = omega arith
+  sum-append f (x ∷ xs) ys = omega (arith, sum-append f xs ys)
+
+-- sums over two lists may be taken in either order
+pub sum-by-rows-or-columns : {A B : Type 0} (f : A → B → ℕ) (xs : List A) (ys : List B)
+    → sumOf (λ x. sumOf (f x) ys) xs ≡ sumOf (λ y. sumOf (λ x. f x y) xs) ys
+sum-by-rows-or-columns f [] ys = sym (sum-zero ys)
+sum-by-rows-or-columns f (x ∷ xs) ys = omega (arith, sum-by-rows-or-columns f xs ys, sum-plus (f x) (λ y. sumOf (λ z. f z y) xs) ys)
+
+-- ---- counts in a list
+
+module _ {A : Type 0} where
+  -- counting is summing ones
+  pub count-sum : (f : A → Bool) (xs : List A) → countIf f xs ≡ sumOf (λ x. oneIf (f x)) xs
+  count-sum f [] = refl
+  count-sum f (x ∷ xs) = rw (count-sum f xs)
+
+  -- no more pass than there are
+  pub count-no-more : (f : A → Bool) (xs : List A) → countIf f xs ≤ length xs
+  count-no-more f xs = omega (arith, length-made (λ x. itself (f x)) (λ x. x) (keep f) refl (λ x xs. refl) xs, length-keep f xs)
+
+  -- tests equal at each element count the same
+  pub count-same : {f g : A → Bool} (xs : List A) → Each (λ x. f x ≡ g x) xs → countIf f xs ≡ countIf g xs
+  count-same [] h = refl
+  count-same (x ∷ xs) h = rw (h x (inl refl), count-same xs (λ y i. h y (inr i)))
+
+  -- where none passes the count is 0
+  pub count-none : {f : A → Bool} (xs : List A) → Each (λ x. f x ≡ false) xs → countIf f xs ≡ 0
+  count-none [] h = refl
+  count-none (x ∷ xs) h = rw (h x (inl refl), count-none xs (λ y i. h y (inr i)))
+
+  -- the count in a list joined of two is the sum of the counts in the two
+  pub count-append : (f : A → Bool) (xs ys : List A) → countIf f (xs ++ ys) ≡ countIf f xs + countIf f ys
+  count-append f [] ys = omega arith
+  count-append f (x ∷ xs) ys = omega (arith, count-append f xs ys)
+
+  -- those that pass are those that pass a second test too and those that fail it
+  pub count-split : (f g : A → Bool) (xs : List A) → countIf f xs ≡ countIf (λ x. f x and g x) xs + countIf (λ x. f x and not (g x)) xs
+  count-split f g [] = refl
+  count-split f g (x ∷ xs) = omega (arith, split-one (f x) (g x), count-split f g xs)
+
+  -- where at most one passes, the count is 1 if one passes, else 0
+  pub count-one : (number : A → ℕ) (f : A → Bool) (c : ℕ) (xs : List A) → Ascends number c xs
+      → ((x y : A) → In x xs → In y xs → f x ≡ true → f y ≡ true → number x ≡ number y) → countIf f xs ≡ oneIf (any f xs)
+  unfolding _or_
+  count-one number f c [] a h = refl
+  count-one number f c (x ∷ xs) a h =
+      go (f x) refl (count-one number f (suc (number x)) xs (a .1) (λ y z i j. h y z (inr i) (inr j)))
+    where
+      none-later : f x ≡ true → Each (λ y. f y ≡ false) xs
+      none-later p y i =
+          ⊎-elim
+          (λ q. absurd (omega (arith, h x y (inl refl) (inr i) p q, ascends-from number (suc (number x)) xs (a .1) y i)))
+          (λ e. e)
+          (passes-or-fails (f y))
+
+      go : (t : Bool) → f x ≡ t → countIf f xs ≡ oneIf (any f xs) → oneIf t + countIf f xs ≡ oneIf (t or any f xs)
+      go true p e = rw (count-none xs (none-later p))
+      go false p e = omega arith
+
+-- counts over two lists may be taken in either order
+pub count-by-rows-or-columns : {A B : Type 0} (f : A → B → Bool) (xs : List A) (ys : List B)
+    → sumOf (λ x. countIf (f x) ys) xs ≡ sumOf (λ y. countIf (λ x. f x y) xs) ys
+count-by-rows-or-columns f xs ys =
+    sum-same xs (λ x i. count-sum (f x) ys)
+    ∙ sum-by-rows-or-columns (λ x y. oneIf (f x y)) xs ys
+    ∙ sum-same ys (λ y i. sym (count-sum (λ x. f x y) xs))
+
+-- ---- sums over lanes
+
+-- equal numbers of each lane make equal sums
+pub lanes-same : {f g : ℕ → ℕ} (i m : ℕ) → EachLane (λ j. f j ≡ g j) i m → sumLanes f i m ≡ sumLanes g i m
+lanes-same i zero h = refl
+lanes-same i (suc m) h =
+    omega (arith, h i (omega arith) (omega arith), lanes-same (suc i) m (λ j l u. h j (omega arith) (omega arith)))
+
+-- sums over a list and over lanes may be taken in either order
+pub sum-by-lanes : {A : Type 0} (f : A → ℕ → ℕ) (xs : List A) (i m : ℕ)
+    → sumOf (λ x. sumLanes (f x) i m) xs ≡ sumLanes (λ j. sumOf (λ x. f x j) xs) i m
+sum-by-lanes f xs i zero = sum-zero xs
+sum-by-lanes f xs i (suc m) = omega (arith, sum-plus (λ x. f x i) (λ x. sumLanes (f x) (suc i) m) xs, sum-by-lanes f xs (suc i) m)
+
+-- how many lanes pass with none higher that passes: 1 where some lane passes, else 0
+pub highest-once : (f : ℕ → Bool) (n i m : ℕ) → i + m ≡ n
+    → sumLanes (λ j. oneIf (f j and not (someLane f (suc j) (n - suc j)))) i m ≡ oneIf (someLane f i m)
+highest-once f n i zero e = refl
+highest-once f n i (suc m) e =
+    let r : n - suc i ≡ m = omega arith in rw (r, highest-once f n (suc i) m (omega arith)) (here-or-higher (f i) (someLane f (suc i) m))
