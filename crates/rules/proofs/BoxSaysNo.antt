@@ -1,7 +1,7 @@
 -- "When the box says no": what each line of the table says in plain arithmetic and membership,
 -- that the lowest number that applies is given, and what a band and each call are like that nothing refuses.
 -- Assumes nothing.
-use Prim.Native.Nat.{ℕ, _≤_, _<_}
+use Prim.Native.Nat.{ℕ, zero, suc, _≤_, _<_}
 use mathlib.Core.Path.{_≡_, refl, sym, _∙_, subst}
 use mathlib.Core.Bool.{Bool, true, false, cond}
 use mathlib.Core.Logic.{_↔_, Iff·trans, _⊎_, inl, inr}
@@ -11,11 +11,11 @@ use lib.ListN.{length}
 use borrow.Author.Tests.{eq-eqb, ne-eqb}
 use Rattle.rules.specs.HallLine.{Band, machines, isMachine, highestKey, highestBandNumber, house, holds, holdsWholeKey, withinScope}
 use Rattle.rules.specs.NodesLanesEdges.{lanes, isLevel, standsAt, levelAt}
-use Rattle.rules.specs.Profile.{Profile, isLive}
+use Rattle.rules.specs.Profile.{Profile, emptyProfile, isLive}
 use Rattle.rules.specs.Marks.{marksInUse}
 use Rattle.rules.specs.Changes.{inserted, removed}
 use Rattle.rules.specs.Room.{Room, roomInRange}
-use Rattle.rules.specs.BoxSaysNo.{TableLine, lowest, sizesWrong, notSound, scopeAbove, numberAbove, keyAbove, endAbove, holdsNone, endElsewhere, levelWrong, numberLive, numberNotLive, scopeOther, nodesExceed, marksExceed, noNode, noLane, bandLines, insertLines, removeLines, stabLines, bandReadLines, edgeReadLines, nodeReadLines, keyFault, bandFault, faultOf, insertRefusal, removeRefusal, emptyRefusal, stabRefusal, bandReadRefusal, edgeReadRefusal, nodeReadRefusal, roomReadRefusal, changed, answered}
+use Rattle.rules.specs.BoxSaysNo.{TableLine, lowest, sizesWrong, notSound, scopeAbove, numberAbove, keyAbove, endAbove, holdsNone, endElsewhere, levelWrong, numberLive, numberNotLive, scopeOther, nodesExceed, marksExceed, noNode, noLane, bandLines, insertLines, removeLines, stabLines, bandReadLines, edgeReadLines, nodeReadLines, keyFault, bandFault, faultOf, insertRefusal, removeRefusal, emptyRefusal, stabRefusal, bandReadRefusal, edgeReadRefusal, nodeReadRefusal, roomReadRefusal, changed, emptyOutcome, insertOutcome, removeOutcome, answered}
 use Rattle.rules.proofs.Means.{Means, Fails, never, reworded, itself, denied, not-means, not-fails, and-means, and-fails, and3-means, or-means, or-fails, implies-fails, lt-means, lt-fails, le-means, le-fails, eq-means}
 use Rattle.rules.proofs.Lists.{Some, Each, some-cons, each-cons, any-means, any-fails}
 use Rattle.rules.proofs.HallLine.{Own, own-key-means, holds-whole-key-means}
@@ -390,3 +390,33 @@ accepted-answers refusal zeros a z = rw (eq-eqb refusal 0 z)
 -- .. and a refused one zeros
 pub refused-zeros : {A : Type 0} (refusal : ℕ) (zeros a : A) → (refusal ≡ 0 → ⊥) → answered refusal zeros a .answer ≡ zeros
 refused-zeros refusal zeros a h = rw (ne-eqb refusal 0 h)
+
+-- what is so before a change, and after it where nothing refuses it, is so of what the change comes to
+pub change-keeps : (P : Profile → Type 0) (refusal : ℕ) (before after : Profile) → P before → (refusal ≡ 0 → P after)
+    → P (changed refusal before after .profile)
+change-keeps P zero before after b a = a refl
+change-keeps P (suc r) before after b a = rw (refused-unchanged (suc r) before after (λ z. omega arith)) b
+
+-- the same of making an empty profile ..
+pub empty-keeps : (P : Profile → Type 0) (sizesRight : Bool) (p : Profile) → P p → (sizesRight ≡ true → P emptyProfile)
+    → P (emptyOutcome sizesRight p .profile)
+unfolding emptyOutcome
+empty-keeps P sizesRight p before after =
+    change-keeps P (emptyRefusal sizesRight) p emptyProfile before (λ z. after (empty-taken sizesRight .0 z))
+
+module _ (P : Profile → Type 0) (sizesRight sound : Bool) (room : Room) (p : Profile) where
+  -- .. of an insert ..
+  pub insert-keeps : (b : Band) (lo hi : ℕ) → P p → (InsertTaken sizesRight sound room p b lo hi → P (inserted p b lo hi))
+      → P (insertOutcome sizesRight sound room p b lo hi .profile)
+  unfolding insertOutcome
+  insert-keeps b lo hi before after =
+      change-keeps P (insertRefusal sizesRight sound room p b lo hi) p (inserted p b lo hi) before
+      (λ z. after (insert-taken sizesRight sound room p b lo hi .0 z))
+
+  -- .. and of a remove
+  pub remove-keeps : (number scope : ℕ) → P p → (RemoveTaken sizesRight sound room p number scope → P (removed p number))
+      → P (removeOutcome sizesRight sound room p number scope .profile)
+  unfolding removeOutcome
+  remove-keeps number scope before after =
+      change-keeps P (removeRefusal sizesRight sound room p number scope) p (removed p number) before
+      (λ z. after (remove-taken sizesRight sound room p number scope .0 z))

@@ -19,6 +19,8 @@ pub mod Readouts
 pub mod BoxSaysNo
 pub mod Faults
 pub mod SoundMemory
+pub mod StandingKept
+pub mod RemoveRefusals
 pub mod BenchCard
 pub mod Reach
 pub mod BenchTable

@@ -10,7 +10,7 @@ use Rattle.rules.specs.Profile.{Profile}
 use Rattle.rules.specs.Marks.{marksInUse}
 use Rattle.rules.specs.Room.{Room}
 use Rattle.rules.specs.BoxSaysNo.{bandFault}
-use Rattle.rules.specs.SoundMemory.{numbersAscend, bandsRight, keysAscend, levelsRight, standing, fits}
+use Rattle.rules.specs.SoundMemory.{numbersAscend, bandsRight, keysAscend, levelsRight, standing, fits, soundIn}
 use Rattle.rules.proofs.Means.{Means, reworded, and-means, and3-means, le-means, eq-means}
 use Rattle.rules.proofs.Lists.{Some, Each, all-means}
 use Rattle.rules.proofs.NodesLanesEdges.{Asc, Level, NodeAt, EndOf, is-level-means, ends-stand-means, only-ends-stand-means}
@@ -75,3 +75,12 @@ fits-means room p =
     (and3-means (room-in-range-means room) (le-means (length (p .nodes)) (room .nodes)) (le-means (marksInUse p) (room .marks)))
     (λ h. record { node-room = h .0 .0; mark-room = h .0 .1; nodes-fit = h .1; marks-fit = h .2 })
     (λ f. ((f .node-room, f .mark-room), f .nodes-fit, f .marks-fit))
+
+-- the profile stands and fits the room
+abbrev pub SoundIn : Room → Profile → Type 0
+SoundIn room p = Standing p × Fitting room p
+
+-- a profile passes the test of soundness in a room exactly then
+pub sound-in-means : (room : Room) (p : Profile) → Means (soundIn room p) (SoundIn room p)
+unfolding soundIn
+sound-in-means room p = and-means (standing-means p) (fits-means room p)
