@@ -12,13 +12,12 @@ use lib.Dec.{eqb}
 use lib.ListN.{length, replicate}
 use Rattle.rules.specs.Lists.{member, countIf}
 use Rattle.rules.specs.HallLine.{Band, highestKey, holds}
-use Rattle.rules.specs.Marks.{numbersWhere}
 use Rattle.rules.specs.Flags.{flagAt}
 use Rattle.rules.specs.BoxSaysNo.{line, keyAbove, bandLines, keyFault, bandFault}
 use Rattle.rules.specs.BenchCard.{bad, recordFault, firstBad, cardBad, scanned, scanOf}
 use Rattle.rules.proofs.Means.{passes-or-fails, itself, denied, same-means, lt-means, at-most-or-above}
 use Rattle.rules.proofs.Lists.{In, Some, Each, each-cons, all-means, member-means, Distinct, distinct-means, in-middle, in-map}
-use Rattle.rules.proofs.Marks.{in-numbers, numbersOf, length-of-numbers, numbers-stay-apart}
+use Rattle.rules.proofs.Marks.{in-numbers, numbersOf, length-of-numbers, numbers-stay-apart, numbersHolding}
 use Rattle.rules.proofs.Flags.{flag-set-where-in, count-without-repeats, flags-of-none, count-of-nothing}
 use Rattle.rules.proofs.BoxSaysNo.{lowest-here, lowest-first, lowest-enough, lowest-zero, last-zero, BandRight, band-lines-zero, key-fault-zero, band-fault-zero}
 
@@ -197,10 +196,6 @@ module _ (cards : List Band) (k : ℕ) where
   )
 
 -- ---- flags and count
-
--- the numbers of the records that hold the key
-abbrev pub numbersHolding : List Band → ℕ → List ℕ
-numbersHolding cards k = numbersWhere (λ b. holds b k) cards
 
 module _ (cards : List Band) (k : ℕ) where
   -- the card tells what is bad

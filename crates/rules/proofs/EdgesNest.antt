@@ -3,14 +3,13 @@
 -- Assumes nothing.
 use Prim.Native.Nat.{ℕ, suc, _≤_, _<_}
 use mathlib.Core.Path.{_≡_, refl, subst}
-use mathlib.Core.Bool.{Bool, true, false}
 use mathlib.Core.Logic.{_⊎_, inl, inr, ⊎-elim}
 use mathlib.Core.List.{List, [], _∷_}
 use native.Mathlib.Omega.{arith}
 use native.Mathlib.Nat.{eq-or-lt-of-le}
 use Rattle.rules.specs.NodesLanesEdges.{Node, Edge, edgeOf, laneOf, edgesFrom, edgesAlong, edgesIn}
 use Rattle.rules.proofs.Means.{at-most-or-above}
-use Rattle.rules.proofs.Lists.{In, Some, Each, Ascends, ascends-from}
+use Rattle.rules.proofs.Lists.{In, Some, Ascends, ascends-from}
 use Rattle.rules.proofs.NodesLanesEdges.{in-lane, Asc, lane-ascends, Joins, edge-rule}
 use Rattle.rules.proofs.Marks.{Contains, PassesOver}
 

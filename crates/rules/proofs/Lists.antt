@@ -1,7 +1,7 @@
 -- What the tests over lists and lanes mean, by membership; ascending lists; who stands in a list made of another.
 -- Assumes nothing.
 use Prim.Native.Nat.{ℕ, zero, suc, _+_, _≤_, _<_}
-use mathlib.Core.Path.{_≡_, refl, sym, _∙_, ap, subst, subst⁻¹}
+use mathlib.Core.Path.{_≡_, refl, sym, _∙_, ap, ap₂, subst, subst⁻¹}
 use mathlib.Core.Bool.{Bool, true, false, cond}
 use mathlib.Core.Logic.{_↔_, _⊎_, inl, inr, ⊎-elim, ⊎-map}
 use mathlib.Core.List.{List, [], _∷_, _++_, map}
@@ -10,7 +10,7 @@ use native.Mathlib.Omega.{arith}
 use native.Mathlib.Nat.{eq-or-lt-of-le}
 use lib.Dec.{ltb}
 use lib.ListN.{length}
-use borrow.Author.Tests.{ltb-true, ltb-false}
+use borrow.Author.Tests.{ltb-true, ltb-false, lt-ltb, le-ltb}
 use Rattle.rules.specs.Connectives.{oneIf}
 use Rattle.rules.specs.Lists.{addIf, any, all, keep, firstOf, countIf, member, distinct, someLane, placed, sameNumbers}
 use Rattle.rules.proofs.Means.{Fails, Means, and-fails, and-means, denied, eq-means, itself, never, not-means, or-fails, or-means, passes-or-fails, reworded}
@@ -150,6 +150,26 @@ length-keep f (x ∷ xs) = go (f x) (length-keep f xs)
     go true h = omega arith
     go false h = omega arith
 
+module _ {A : Type 0} (f : A → Bool) where
+  -- where none passes none is kept ..
+  pub keep-none : (xs : List A) → Each (λ x. f x ≡ false) xs → keep f xs ≡ []
+  keep-none [] h = refl
+  keep-none (x ∷ xs) h = rw (h x (inl refl)) (keep-none xs (λ y i. h y (inr i)))
+
+  -- .. and where each passes all are
+  pub keep-all : (xs : List A) → Each (λ x. f x ≡ true) xs → keep f xs ≡ xs
+  keep-all [] h = refl
+  keep-all (x ∷ xs) h = rw (h x (inl refl)) (ap (λ ys. x ∷ ys) (keep-all xs (λ y i. h y (inr i))))
+
+  -- a test that only those pass who passed the first keeps the same after it as alone
+  pub keep-again : (g : A → Bool) (xs : List A) → Each (λ x. g x ≡ true → f x ≡ true) xs → keep g (keep f xs) ≡ keep g xs
+  keep-again g [] h = refl
+  keep-again g (x ∷ xs) h = go (f x) (h x (inl refl)) (keep-again g xs (λ y i. h y (inr i)))
+    where
+      go : (t : Bool) → (g x ≡ true → t ≡ true) → keep g (keep f xs) ≡ keep g xs → keep g (addIf t x (keep f xs)) ≡ addIf (g x) x (keep g xs)
+      go true i e = ap (addIf (g x) x) e
+      go false i e = rw (denied (itself (g x)) .test (λ p. never (i p))) e
+
 -- some element is so, or none is
 pub some-or-none : {A : Type 0} {f : A → Bool} {P : A → Type 0} → ((x : A) → Means (f x) (P x)) → (xs : List A)
     → Some P xs ⊎ Each (λ x. P x → ⊥) xs
@@ -270,6 +290,25 @@ module _ {A : Type 0} (number : A → ℕ) where
       go : (t : Bool) → Ascends (suc (number x)) (keep f xs) → Ascends c (addIf t x (keep f xs))
       go true b = (a .0, b)
       go false b = ascends-lower c (suc (number x)) (keep f xs) (omega arith) b
+
+  -- those above the first element are the others
+  pub keep-above-first : (c : ℕ) (x : A) (xs : List A) → Ascends c (x ∷ xs) → keep (λ y. ltb (number x) (number y)) (x ∷ xs) ≡ xs
+  keep-above-first c x xs a =
+      rw (le-ltb (number x) (number x) (omega arith))
+      (keep-all (λ y. ltb (number x) (number y)) xs (λ y i. lt-ltb (number x) (number y) (ascends-from (suc (number x)) xs (a .1) y i)))
+
+  -- a test that one number alone passes keeps one element
+  pub keep-one : (f : A → Bool) (c : ℕ) (xs : List A) → Ascends c xs → (x : A) → In x xs → f x ≡ true
+      → Each (λ y. f y ≡ true → number y ≡ number x) xs → keep f xs ≡ x ∷ []
+  keep-one f c [] a x i p h = absurd i
+  keep-one f c (z ∷ zs) a x (inl e) p h =
+      let later = ascends-from (suc (number z)) zs (a .1) in
+      let none = keep-none f zs (λ y j. denied (itself (f y)) .test (λ q. absurd (omega (arith, ap number e, h y (inr j) q, later y j)))) in
+      rw (ap f (sym e) ∙ p) (ap₂ (λ (y : A) (ys : List A). y ∷ ys) (sym e) none)
+  keep-one f c (z ∷ zs) a x (inr i) p h =
+      let later = ascends-from (suc (number z)) zs (a .1) x i in
+      rw (denied (itself (f z)) .test (λ q. absurd (omega (arith, h z (inl refl) q, later))))
+      (keep-one f (suc (number z)) zs (a .1) x i p (λ y j. h y (inr j)))
 
   -- the first element of an ascending list is its least
   pub first-least : (c : ℕ) (xs : List A) → Ascends c xs → (y : A)

@@ -78,6 +78,10 @@ pub in-numbers : {f : Band → Bool} {P : Band → Type 0} → ((b : Band) → M
     → In n (numbersWhere f bs) ↔ Some (λ b. P b × (b .number ≡ n)) bs
 in-numbers {f} m n bs = in-made m (λ b. b .number) (numbersWhere f) refl (λ b bs. refl) n bs
 
+-- the numbers of the bands that hold the key
+abbrev pub numbersHolding : List Band → ℕ → List ℕ
+numbersHolding bs k = numbersWhere (λ b. holds b k) bs
+
 -- the numbers of all bands of a list
 abbrev pub numbersOf : List Band → List ℕ
 numbersOf bs = map (λ b. b .number) bs

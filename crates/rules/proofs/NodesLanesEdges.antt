@@ -1,5 +1,5 @@
 -- "Nodes, lanes, edges": levels, where nodes stand, whose ends they are and who takes part in a lane, to and from membership and arithmetic;
--- of nodes in key order, that an edge joins two that are next to each other, and that the level at a key is the level of the node there;
+-- of nodes in key order, that an edge joins two that are next to each other, that edges ascend, and that the level at a key is that of its node;
 -- what making a node at a key leaves, and that a level stays.
 -- Assumes nothing.
 use Prim.Native.Nat.{ℕ, suc, _≤_, _<_}
@@ -135,6 +135,18 @@ edges-along-join c e (k ∷ ks) a = edges-join e k ks (a .1)
 -- an edge of a lane joins two nodes next to each other in that lane
 pub edge-rule : (i c : ℕ) (e : Edge) (ns : List Node) → Asc c ns → In e (edgesIn i ns) ↔ Joins e (laneOf i ns)
 edge-rule i c e ns a = edges-along-join c e (laneOf i ns) (lane-ascends i c ns a)
+
+edges-from-ascend : (x : ℕ) (ks : List ℕ) → Ascends (λ k. k) (suc x) ks → Ascends (λ e. e .from) x (edgesFrom x ks)
+edges-from-ascend x [] a = tt
+edges-from-ascend x (y ∷ ys) a = (omega arith, ascends-lower (λ e. e .from) (suc x) y (edgesFrom y ys) (a .0) (edges-from-ascend y ys (a .1)))
+
+edges-along-ascend : (c : ℕ) (ks : List ℕ) → Ascends (λ k. k) c ks → Ascends (λ e. e .from) c (edgesAlong ks)
+edges-along-ascend c [] a = tt
+edges-along-ascend c (k ∷ ks) a = ascends-lower (λ e. e .from) c k (edgesFrom k ks) (a .0) (edges-from-ascend k ks (a .1))
+
+-- a lane's edges ascend by the key they leave from
+pub edges-ascend : (i c : ℕ) (ns : List Node) → Asc c ns → Ascends (λ e. e .from) c (edgesIn i ns)
+edges-ascend i c ns a = edges-along-ascend c (laneOf i ns) (lane-ascends i c ns a)
 
 -- the level of the node at a key ..
 pub level-there : (c : ℕ) (ns : List Node) → Asc c ns → Each (λ n. levelAt (n .key) ns ≡ n .level) ns

@@ -1,18 +1,24 @@
 -- Laws of sums and counts over lists and lanes: sums of equals, split sums, sums taken in the other order; when a count is 0 or 1.
 -- Assumes nothing.
 use Prim.Native.Nat.{ℕ, zero, suc, _+_, _-_, _≤_}
-use mathlib.Core.Path.{_≡_, refl, sym, _∙_}
+use mathlib.Core.Path.{_≡_, refl, sym, _∙_, ap}
 use mathlib.Core.Bool.{Bool, true, false, not}
-use mathlib.Core.Logic.{inl, inr, ⊎-elim}
+use mathlib.Core.Logic.{_↔_, inl, inr, ⊎-elim}
 use mathlib.Core.List.{List, [], _∷_, _++_}
 use native.Mathlib.Omega.{arith}
+use lib.Dec.{eqb}
 use lib.ListN.{length}
+use borrow.Author.Tests.{eq-eqb}
 use Rattle.rules.specs.Connectives.{_and_, _or_, oneIf}
 use Rattle.rules.specs.Lists.{any, keep, countIf, sumOf, someLane, sumLanes}
-use Rattle.rules.proofs.Means.{itself, passes-or-fails}
-use Rattle.rules.proofs.Lists.{In, Each, EachLane, length-made, length-keep, Ascends, ascends-from}
+use Rattle.rules.proofs.Means.{Means, never, reworded, itself, passes-or-fails, eq-means}
+use Rattle.rules.proofs.Lists.{In, Each, EachLane, Distinct, find-means, length-made, length-keep, Ascends, ascends-from}
 
 -- ---- tests as numbers
+
+pub at-most-one : (t : Bool) → oneIf t ≤ 1
+at-most-one true = omega arith
+at-most-one false = omega arith
 
 split-one : (s t : Bool) → oneIf s ≡ oneIf (s and t) + oneIf (s and not t)
 unfolding _and_
@@ -105,6 +111,36 @@ module _ {A : Type 0} where
       go : (t : Bool) → f x ≡ t → countIf f xs ≡ oneIf (any f xs) → oneIf t + countIf f xs ≡ oneIf (t or any f xs)
       go true p e = rw (count-none xs (none-later p))
       go false p e = omega arith
+
+-- some element passes exactly when the count is not 0
+pub counted-means : {A : Type 0} (f : A → Bool) (xs : List A) → Means (any f xs) (1 ≤ countIf f xs)
+unfolding _or_
+counted-means f [] = record { fact = never; test = λ l. absurd (omega arith) }
+counted-means f (x ∷ xs) = go (f x) (counted-means f xs)
+  where
+    go : (t : Bool) → Means (any f xs) (1 ≤ countIf f xs) → Means (t or any f xs) (1 ≤ oneIf t + countIf f xs)
+    go true m = record { fact = λ h. omega arith; test = λ l. refl }
+    go false m = reworded m (λ l. omega arith) (λ l. omega arith)
+
+-- a number stands where it is counted
+pub in-counted : (n : ℕ) (xs : List ℕ) → In n xs ↔ (1 ≤ countIf (λ m. eqb m n) xs)
+in-counted n xs =
+    let f = find-means (λ m. eq-means m n) xs in
+    let c = counted-means (λ m. eqb m n) xs in
+    (λ i. c .fact (f .test i), λ l. f .fact (c .test l))
+
+-- numbers of which none is counted twice are without repeats
+pub distinct-by-counts : (xs : List ℕ) → ((n : ℕ) → countIf (λ m. eqb m n) xs ≤ 1) → Distinct xs
+distinct-by-counts [] h = tt
+distinct-by-counts (x ∷ xs) h = (
+  λ i. omega (arith, h x, ap oneIf (eq-eqb x x refl), in-counted x xs .0 i),
+  distinct-by-counts xs (λ n. omega (arith, h n)),
+)
+
+-- counting counts all where all pass
+pub count-all : {A : Type 0} (xs : List A) → countIf (λ x. true) xs ≡ length xs
+count-all [] = refl
+count-all (x ∷ xs) = omega (arith, count-all xs)
 
 -- counts over two lists may be taken in either order
 pub count-by-rows-or-columns : {A B : Type 0} (f : A → B → Bool) (xs : List A) (ys : List B)

@@ -1,0 +1,99 @@
+-- Alone: a machine's band holds no key of another machine, so two standing profiles whose bands differ only in those of one machine answer the
+-- same bands, count and marks met at every key of every other machine; and the profile after a call of that scope is such a one.
+-- Assumes nothing.
+use Prim.Native.Nat.{ℕ, _<_}
+use mathlib.Core.Path.{_≡_, sym, _∙_, ap}
+use mathlib.Core.Bool.{Bool, true, false}
+use mathlib.Core.Logic.{_↔_, inr, ⊎-elim}
+use Rattle.rules.specs.Lists.{member}
+use Rattle.rules.specs.HallLine.{Band, machines, ownKey, holds}
+use Rattle.rules.specs.Profile.{Profile}
+use Rattle.rules.specs.Room.{Room}
+use Rattle.rules.specs.Search.{taken, stabOf}
+use Rattle.rules.specs.Changes.{inserted, removed}
+use Rattle.rules.specs.BoxSaysNo.{insertOutcome, removeOutcome}
+use Rattle.rules.specs.Reach.{OthersAlike}
+use Rattle.rules.proofs.Means.{never, passes-or-fails, same-means}
+use Rattle.rules.proofs.Lists.{In, Some, Each, member-means}
+use Rattle.rules.proofs.HallLine.{scope-keeps}
+use Rattle.rules.proofs.Flags.{flags-by-members, count-by-members}
+use Rattle.rules.proofs.Changes.{in-inserted-bands, in-removed-bands}
+use Rattle.rules.proofs.BoxSaysNo.{BandRight, RemoveTaken, insert-keeps, remove-keeps}
+use Rattle.rules.proofs.SoundMemory.{Standing}
+use Rattle.rules.proofs.Reach.{answers-alike-means}
+use Rattle.rules.proofs.TakenOver.{standing-laid}
+use Rattle.rules.proofs.MetOnce.{taken-are-held, met-is-count}
+use Rattle.rules.proofs.StandingKept.{insert-keeps-standing, remove-keeps-standing}
+
+-- a machine's band holds no key of another machine
+pub holds-no-other : (b : Band) → BandRight b → b .scope < machines → (k : ℕ) → ownKey (b .scope) k ≡ false → holds b k ≡ false
+holds-no-other b right l k other =
+    ⊎-elim (λ h. never (sym other ∙ scope-keeps b l (right .in-scope) k h)) (λ e. e) (passes-or-fails (holds b k))
+
+-- every band of another scope is live in both profiles or in neither
+abbrev pub DifferOnlyIn : ℕ → Profile → Profile → Type 0
+DifferOnlyIn m p q = (b : Band) → (b .scope ≡ m → ⊥) → In b (p .bands) ↔ In b (q .bands)
+
+-- a live band of the number holds the key
+abbrev pub HeldBy : Profile → ℕ → ℕ → Type 0
+HeldBy p k n = Some (λ b. (holds b k ≡ true) × (b .number ≡ n)) (p .bands)
+
+module _ (m k : ℕ) (l : m < machines) (other : ownKey m k ≡ false) where
+  -- a band that holds a key of another machine is not of scope m ..
+  not-of-scope : (b : Band) → BandRight b → holds b k ≡ true → b .scope ≡ m → ⊥
+  not-of-scope b right h e = never (sym (holds-no-other b right (rw e l) k (rw e other)) ∙ h)
+
+  -- .. so it is live in the other profile too
+  held-too : (p q : Profile) → Each BandRight (p .bands) → ((b : Band) → (b .scope ≡ m → ⊥) → In b (p .bands) → In b (q .bands))
+      → (n : ℕ) → HeldBy p k n → HeldBy q k n
+  held-too p q right live n s = (s .0, live (s .0) (not-of-scope (s .0) (right (s .0) (s .1)) (s .2 .0)) (s .1), s .2)
+
+  module _ (p q : Profile) (before : Standing p) (after : Standing q) (only : DifferOnlyIn m p q) where
+    -- .. and what a search takes there in one it takes in the other
+    same-taken : (n : ℕ) → member n (taken p k) ≡ member n (taken q k)
+    same-taken n =
+        let in-p = taken-are-held p k (standing-laid p before) n in
+        let in-q = taken-are-held q k (standing-laid q after) n in
+        same-means (member-means n (taken p k)) (member-means n (taken q k))
+        (λ i. in-q .1 (held-too p q (before .bands-right) (λ b o. only b o .0) n (in-p .0 i)))
+        (λ i. in-p .1 (held-too q p (after .bands-right) (λ b o. only b o .1) n (in-q .0 i)))
+
+    same-flags : stabOf p k .flags ≡ stabOf q k .flags
+    unfolding stabOf
+    same-flags = flags-by-members (taken p k) (taken q k) (λ n l. same-taken n)
+
+    same-count : stabOf p k .count ≡ stabOf q k .count
+    unfolding stabOf
+    same-count = count-by-members (taken p k) (taken q k) (λ n l. same-taken n)
+
+    same-met : stabOf p k .met ≡ stabOf q k .met
+    same-met = met-is-count p k before ∙ same-count ∙ sym (met-is-count q k after)
+
+-- two standing profiles whose bands differ only in those of scope m answer alike at every key of every other machine
+pub alone : (m : ℕ) (p q : Profile) → Standing p → Standing q → DifferOnlyIn m p q → OthersAlike m p q
+alone m p q before after only l k on-line other =
+    answers-alike-means p q k .test
+    (same-flags m k l other p q before after only, same-count m k l other p q before after only, same-met m k l other p q before after only)
+
+module _ (sizesRight sound : Bool) (room : Room) (p : Profile) (s : Standing p) where
+  -- an insert, accepted or refused, leaves answers the same at every key of every machine but the one of its scope
+  pub insert-alone : (b : Band) (lo hi : ℕ) → OthersAlike (b .scope) p (insertOutcome sizesRight sound room p b lo hi .profile)
+  insert-alone b lo hi =
+      alone (b .scope) p _ s (insert-keeps-standing sizesRight sound room p b lo hi s)
+      (insert-keeps (DifferOnlyIn (b .scope) p) sizesRight sound room p b lo hi (λ c o. (λ i. i, λ i. i)) (λ t. others))
+    where
+      others : DifferOnlyIn (b .scope) p (inserted p b lo hi)
+      others c o =
+          let e = in-inserted-bands p b lo hi c in
+          (λ i. e .1 (inr i), λ i. ⊎-elim (λ same. absurd (o (ap (λ d. d .scope) same))) (λ j. j) (e .0 i))
+
+  -- and so does a remove
+  pub remove-alone : (number scope : ℕ) → OthersAlike scope p (removeOutcome sizesRight sound room p number scope .profile)
+  remove-alone number scope =
+      alone scope p _ s (remove-keeps-standing sizesRight sound room p number scope s)
+      (remove-keeps (DifferOnlyIn scope p) sizesRight sound room p number scope (λ c o. (λ i. i, λ i. i)) others)
+    where
+      others : RemoveTaken sizesRight sound room p number scope → DifferOnlyIn scope p (removed p number)
+      others t c o =
+          let e = in-removed-bands p number c in
+          (λ i. e .1 (i, λ same. o (t .scope-same c i same)), λ i. e .0 i .0)

@@ -1,0 +1,129 @@
+-- Met once: where nodes ascend with right levels and both ends of each band stand, the search at a key takes each band that holds the key
+-- once, and no other. So a stab's flags are those of the bands that hold the key, and marks met and the count are how many they are.
+-- Assumes nothing.
+use Prim.Native.Nat.{ℕ, _<_}
+use mathlib.Core.Path.{_≡_, refl, sym, _∙_, ap, subst}
+use mathlib.Core.Bool.{Bool, true}
+use mathlib.Core.Logic.{_↔_, Iff·trans}
+use mathlib.Core.List.{List}
+use native.Mathlib.Omega.{arith}
+use lib.Dec.{eqb}
+use lib.ListN.{length}
+use Rattle.rules.specs.Connectives.{oneIf}
+use Rattle.rules.specs.Lists.{any, countIf}
+use Rattle.rules.specs.HallLine.{Band, holds}
+use Rattle.rules.specs.Profile.{Profile}
+use Rattle.rules.specs.Flags.{flagsOf, flagAt}
+use Rattle.rules.specs.Search.{taken, stabOf}
+use Rattle.rules.proofs.Means.{itself, eq-means, lt-means, same-means}
+use Rattle.rules.proofs.Lists.{In, Some, Each, Distinct, any-means, all-means, member-means, distinct-means, in-kept, ascends-keep, ascends-once}
+use Rattle.rules.proofs.Profile.{NumbersAsc}
+use Rattle.rules.proofs.Marks.{in-numbers, numbersHolding, length-of-numbers}
+use Rattle.rules.proofs.Flags.{flag-set-where-in, count-without-repeats, flags-by-members}
+use Rattle.rules.proofs.SearchReaches.{takes-over}
+use Rattle.rules.proofs.Sums.{at-most-one, count-all, count-one, in-counted, distinct-by-counts}
+use Rattle.rules.proofs.TakenOver.{Laid, standing-laid, asked, count-numbers, taken-over-count}
+use Rattle.rules.proofs.SoundMemory.{Standing}
+
+-- of ascending bands those with one number are one or none
+one-numbered : (f : Band → Bool) (n : ℕ) (bs : List Band) → NumbersAsc 0 bs
+    → countIf f (asked (λ m. eqb m n) bs) ≡ oneIf (any f (asked (λ m. eqb m n) bs))
+one-numbered f n bs a =
+    count-one (λ b. b .number) f 0 (asked (λ m. eqb m n) bs) (ascends-keep (λ b. b .number) (λ b. eqb (b .number) n) 0 bs a)
+    (λ b c i j u v. numbered b i ∙ sym (numbered c j))
+  where
+    numbered : Each (λ b. b .number ≡ n) (asked (λ m. eqb m n) bs)
+    numbered b i = in-kept (λ c. eq-means (c .number) n) b bs .0 i .1
+
+-- ---- what the search takes
+
+module _ (p : Profile) (k : ℕ) where
+  module _ (laid : Laid p) where
+    -- whatever is asked of numbers, the search takes as many that pass as there are among the bands that hold the key
+    pub met-once : (t : ℕ → Bool) → countIf t (taken p k) ≡ countIf t (numbersHolding (p .bands) k)
+    met-once t = ap (countIf t) (takes-over p k (laid .keys-ascend)) ∙ taken-over-count t p k laid
+
+    -- it takes as many marks as there are bands that hold the key
+    pub as-many : length (taken p k) ≡ countIf (λ b. holds b k) (p .bands)
+    as-many =
+        sym (count-all (taken p k))
+        ∙ met-once (λ n. true)
+        ∙ count-all (numbersHolding (p .bands) k)
+        ∙ length-of-numbers (λ b. holds b k) (p .bands)
+
+    same-members : (n : ℕ) → In n (taken p k) ↔ In n (numbersHolding (p .bands) k)
+    same-members n =
+        let same = met-once (λ m. eqb m n) in (
+          λ i. in-counted n (numbersHolding (p .bands) k) .1 (omega (arith, in-counted n (taken p k) .0 i)),
+          λ i. in-counted n (taken p k) .1 (omega (arith, in-counted n (numbersHolding (p .bands) k) .0 i)),
+        )
+
+    -- the numbers taken are those of the bands that hold the key
+    pub taken-are-held : (n : ℕ) → In n (taken p k) ↔ Some (λ b. (holds b k ≡ true) × (b .number ≡ n)) (p .bands)
+    taken-are-held n = Iff·trans (same-members n) (in-numbers (λ b. itself (holds b k)) n (p .bands))
+
+    -- a stab's flags are those of the bands that hold the key ..
+    pub flags-are-the-held : stabOf p k .flags ≡ flagsOf (numbersHolding (p .bands) k)
+    unfolding stabOf
+    flags-are-the-held =
+        flags-by-members (taken p k) (numbersHolding (p .bands) k)
+        (λ n l. same-means (member-means n (taken p k)) (member-means n (numbersHolding (p .bands) k)) (same-members n .0) (same-members n .1))
+
+    -- .. each is set exactly where such a band has the number ..
+    pub flag-where-held : (n : ℕ) → n < 1024
+        → (flagAt (stabOf p k .flags) n ≡ 1) ↔ Some (λ b. (holds b k ≡ true) × (b .number ≡ n)) (p .bands)
+    unfolding stabOf
+    flag-where-held n l = Iff·trans (flag-set-where-in (taken p k) n l) (taken-are-held n)
+
+    -- .. and marks met are how many they are
+    pub met-is-held : stabOf p k .met ≡ countIf (λ b. holds b k) (p .bands)
+    unfolding stabOf
+    met-is-held = as-many
+
+  module _ (standing : Standing p) where
+    -- of the marks taken one has the number, if a band with that number holds the key, else none
+    met-with-number : (n : ℕ) → countIf (λ m. eqb m n) (taken p k) ≡ oneIf (any (λ b. holds b k) (asked (λ m. eqb m n) (p .bands)))
+    met-with-number n =
+        met-once (standing-laid p standing) (λ m. eqb m n)
+        ∙ count-numbers (λ m. eqb m n) (λ b. holds b k) (p .bands)
+        ∙ one-numbered (λ b. holds b k) n (p .bands) (standing .numbers-ascend)
+
+    -- the search takes a live band once if it holds the key and never otherwise
+    pub band-met-once : Each (λ b. countIf (λ n. eqb n (b .number)) (taken p k) ≡ oneIf (holds b k)) (p .bands)
+    band-met-once b i =
+        met-with-number (b .number)
+        ∙ ap oneIf
+        (same-means
+        (any-means (λ c. itself (holds c k)) (asked (λ m. eqb m (b .number)) (p .bands)))
+        (itself (holds b k))
+        (λ s. subst (λ c. holds c k ≡ true) (same (s .0) (s .1)) (s .2))
+        (λ h. (b, in-kept (λ c. eq-means (c .number) (b .number)) b (p .bands) .1 (i, refl), h)))
+      where
+        same : Each (λ c. c ≡ b) (asked (λ m. eqb m (b .number)) (p .bands))
+        same c j =
+            let m = in-kept (λ d. eq-means (d .number) (b .number)) c (p .bands) .0 j in
+            ascends-once (λ d. d .number) 0 (p .bands) (standing .numbers-ascend) c b (m .0) i (m .1)
+
+    -- no band is met twice
+    pub none-met-twice : Distinct (taken p k)
+    none-met-twice =
+        distinct-by-counts (taken p k)
+        (λ n. omega (arith, met-with-number n, at-most-one (any (λ b. holds b k) (asked (λ m. eqb m n) (p .bands)))))
+
+    -- marks met and the count are the same ..
+    pub met-is-count : stabOf p k .met ≡ stabOf p k .count
+    unfolding stabOf
+    met-is-count =
+        sym (count-without-repeats (taken p k)
+        (all-means (λ n. lt-means n 1024) (taken p k) .test below)
+        (distinct-means (taken p k) .test none-met-twice))
+      where
+        below : Each (λ n. n < 1024) (taken p k)
+        below n i =
+            let s = taken-are-held (standing-laid p standing) n .0 i in
+            let right = standing .bands-right (s .0) (s .1) in
+            omega arith
+
+    -- .. and both are how many bands hold the key
+    pub count-is-held : stabOf p k .count ≡ countIf (λ b. holds b k) (p .bands)
+    count-is-held = sym met-is-count ∙ met-is-held (standing-laid p standing)
