@@ -13,9 +13,11 @@ pub mod Flags
 pub mod Search
 pub mod LooksAreSteps
 pub mod EdgesNest
+pub mod EdgesOut
 pub mod LocalMarks
 pub mod SearchReaches
 pub mod OverOnce
+pub mod MarkedSlots
 pub mod Changes
 pub mod Readouts
 pub mod BoxSaysNo

@@ -222,7 +222,8 @@ abbrev pub EachLane : (ℕ → Type 0) → ℕ → ℕ → Type 0
 EachLane P i n = (j : ℕ) → i ≤ j → j < i + n → P j
 
 module _ {P : ℕ → Type 0} (i n : ℕ) where
-  some-lane-up : SomeLane P i (suc n) ↔ (P i ⊎ SomeLane P (suc i) n)
+  -- some lane is so: the lowest of them, or one of those above it
+  pub some-lane-up : SomeLane P i (suc n) ↔ (P i ⊎ SomeLane P (suc i) n)
   some-lane-up = (
     λ s. ⊎-elim (λ e. inl (subst P (sym e) (s .3))) (λ l. inr (s .0, l, omega arith, s .3)) (eq-or-lt-of-le (s .1)),
     ⊎-elim (λ p. (i, omega arith, omega arith, p)) (λ s. (s .0, omega arith, omega arith, s .3)),

@@ -4,14 +4,14 @@
 use Prim.Native.Nat.{ℕ, _≤_, _<_}
 use mathlib.Core.Path.{_≡_}
 use mathlib.Core.Bool.{true}
-use mathlib.Core.Logic.{_⊎_, inl, inr, ⊎-elim, ⊎-map}
+use mathlib.Core.Logic.{_↔_, _⊎_, inl, inr, ⊎-elim, ⊎-map}
 use mathlib.Core.List.{List}
 use native.Mathlib.Omega.{arith}
 use Rattle.rules.specs.HallLine.{Band, highestKey, holds}
 use Rattle.rules.specs.NodesLanesEdges.{Node, Edge, laneOf, edgesIn}
 use Rattle.rules.specs.Marks.{edgeMarked, nodeMarked}
 use Rattle.rules.specs.Reach.{present, presentBoth, madeOrDropped, stretchOf}
-use Rattle.rules.proofs.Means.{passes-or-fails, denied, at-most-or-above}
+use Rattle.rules.proofs.Means.{passes-or-fails, same-test, denied, at-most-or-above}
 use Rattle.rules.proofs.Lists.{In, Some, Each}
 use Rattle.rules.proofs.HallLine.{held-between}
 use Rattle.rules.proofs.NodesLanesEdges.{NodeAt, in-lane, Asc, Joins, edge-rule}
@@ -155,3 +155,37 @@ module _ (both touched : List Node) where
         let r = node-mark-rule here b k .fact h in
         node-mark-rule there b k .test
         (r .0, λ j u f m c n. r .1 j u f (clear-edge-stays there here o j f m s (clear-over k f c clear)) c n)
+
+-- For any two ascending lists of nodes on the line, before and after:
+module _ (before after : List Node) (a : Asc 0 before) (c : Asc 0 after)
+    (l : Each (λ n. n .key ≤ highestKey) before) (m : Each (λ n. n .key ≤ highestKey) after) (b : Band) where
+  -- an edge that lies in no stretch is an edge of its lane before exactly when it is one after, and bears the same marks ..
+  pub same-marks-on-edge : (i : ℕ) (e : Edge) → Clear (presentBoth before after) (madeOrDropped before after) e
+      → (In e (edgesIn i before) ↔ In e (edgesIn i after)) × (edgeMarked before b i e ≡ edgeMarked after b i e)
+  same-marks-on-edge i e clear =
+      let s = sides before after a c l m in (
+        (
+          λ j. clear-edge-stays _ _ before after (s .0) i e j (s .1) clear,
+          λ j. clear-edge-stays _ _ after before (s .1) i e j (s .0) clear,
+        ),
+        same-test (edgeMarked before b i e) (edgeMarked after b i e)
+            (edge-mark-stays _ _ before after (s .0) (s .1) b i e clear)
+            (edge-mark-stays _ _ after before (s .1) (s .0) b i e clear),
+      )
+
+  -- .. and at a key strictly inside none, where the band's ends stand before and after, it is marked on a node before exactly when after
+  pub same-marks-on-node : b .high ≤ highestKey
+      → NodeAt (b .low) before × NodeAt (b .high) before → NodeAt (b .low) after × NodeAt (b .high) after
+      → (k : ℕ) → ClearAt (presentBoth before after) (madeOrDropped before after) k
+      → (NodeAt k before × (nodeMarked before b k ≡ true)) ↔ (NodeAt k after × (nodeMarked after b k ≡ true))
+  same-marks-on-node top ends-before ends-after k clear =
+      let s = sides before after a c l m in (
+        λ h. (
+          held-node-stays _ _ before after (s .0) b top ends-after k clear (node-mark-rule before b k .fact (h .1) .0) (h .0),
+          node-mark-stays _ _ before after (s .0) (s .1) b k clear (h .1),
+        ),
+        λ h. (
+          held-node-stays _ _ after before (s .1) b top ends-before k clear (node-mark-rule after b k .fact (h .1) .0) (h .0),
+          node-mark-stays _ _ after before (s .1) (s .0) b k clear (h .1),
+        ),
+      )

@@ -19,6 +19,7 @@ pub mod HallLine
 pub mod NodesLanesEdges
 pub mod Profile
 pub mod Marks
+pub mod Staircase
 pub mod Flags
 pub mod Search
 pub mod Changes
