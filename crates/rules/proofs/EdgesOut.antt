@@ -1,8 +1,9 @@
 -- A place in a list is a number j and the list from there on, `drop j xs`: what is so of a list going by its first element or the list after
--- it is so at some place. The edges of a lane are those that lead out of a node at some place, and, where nodes ascend, at one place only.
+-- it is so at some place. The edges of a lane are those that lead out of a node at some place, and, where nodes ascend, at one place only:
+-- a lane's edge out of a node leads to the first of the lane's keys after it.
 -- Assumes nothing.
 use Prim.Native.Nat.{ℕ, zero, suc, _+_, _≤_, _<_}
-use mathlib.Core.Path.{_≡_, refl, sym, ap, subst, _∙_}
+use mathlib.Core.Path.{_≡_, refl, sym, ap, subst}
 use mathlib.Core.Bool.{Bool, true, false}
 use mathlib.Core.Logic.{_↔_, _⊎_, inl, inr, ⊎-elim, ⊎-map}
 use mathlib.Core.List.{List, [], _∷_}
@@ -12,9 +13,10 @@ use lib.ListN.{drop}
 use lib.Seq.{drop-nil}
 use Rattle.rules.specs.Lists.{addIf, firstOf}
 use Rattle.rules.specs.NodesLanesEdges.{Node, Edge, edgeOf, takesPart, laneOf, edgesAlong, edgesIn}
-use Rattle.rules.proofs.Means.{never}
-use Rattle.rules.proofs.Lists.{In, first-in}
-use Rattle.rules.proofs.NodesLanesEdges.{Asc, takes-part-means}
+use Rattle.rules.proofs.Means.{never, at-most-or-above}
+use Rattle.rules.proofs.Lists.{In, Each, ascends-from, ascends-once, first-in, first-least}
+use Rattle.rules.proofs.NodesLanesEdges.{Asc, takes-part-means, in-lane, lane-ascends, edge-rule}
+use Rattle.rules.proofs.EdgesNest.{in-own-lane}
 
 -- what is so of a list, counted from c on, exactly when it is so at its first place or of the list after it, is so at some place
 module _ {A : Type 0} (X P : ℕ → List A → Type 0) (empty : (c : ℕ) → X c [] → ⊥) (nowhere : (c : ℕ) → P c [] → ⊥)
@@ -100,17 +102,81 @@ module _ (c : ℕ) (ns : List Node) (a : Asc c ns) (i : ℕ) where
   pub edge-once : (e : Edge) (j k : ℕ) → LeadsOut i (drop j ns) e → LeadsOut i (drop k ns) e → j ≡ k
   edge-once e j k o p = one-place (e .from) j k (starts e (drop j ns) o) (starts e (drop k ns) p)
 
-  -- out of a given node: it takes part and y is the lane's next key exactly when the lane has the edge from it to y
-  pub edge-here : (j : ℕ) (n : Node) (rest : List Node) → drop j ns ≡ n ∷ rest → (y : ℕ)
-      → ((i < n .level) × (firstOf (laneOf i rest) ≡ some y)) ↔ In (edgeOf (n .key) y) (edgesIn i ns)
-  edge-here j n rest at y = (λ h. edge-out-of i e ns .1 (j, subst (λ ms. LeadsOut i ms e) (sym at) (h .0, refl, h .1)), back)
-    where
-      e : Edge
-      e = edgeOf (n .key) y
+-- ---- the nodes ahead
 
-      back : In e (edgesIn i ns) → (i < n .level) × (firstOf (laneOf i rest) ≡ some y)
-      back h =
-          let s = edge-out-of i e ns .0 h in
-          let p = one-place (n .key) (s .0) j (starts e (drop (s .0) ns) (s .1)) (subst (StartsAt (n .key)) (sym at) refl) in
-          let o : LeadsOut i (n ∷ rest) e = subst (λ ms. LeadsOut i ms e) (ap (λ k. drop k ns) p ∙ at) (s .1) in
-          (o .0, o .2)
+-- ms are the nodes of ns from key c on
+pub record Ahead (ns : List Node) (c : ℕ) (ms : List Node) : Type 0 where
+  pub ascend : Asc c ms
+  pub those : (m : Node) → In m ms ↔ (In m ns × (c ≤ m .key))
+
+-- at first all nodes are ahead
+pub all-ahead : (ns : List Node) → Asc 0 ns → Ahead ns 0 ns
+all-ahead ns a = record { ascend = a; those = λ m. (λ i. (i, omega arith), λ h. h .0) }
+
+module _ {ns : List Node} {c : ℕ} {n : Node} {rest : List Node} (f : Ahead ns c (n ∷ rest)) where
+  -- the first node ahead is one of all ..
+  pub node-ahead : In n ns
+  node-ahead = f .those n .0 (inl refl) .0
+
+  -- .. and the others are those above it
+  pub rest-ahead : Ahead ns (suc (n .key)) rest
+  rest-ahead =
+      record {
+        ascend = f .ascend .1;
+        those = λ m. (
+          λ i. (f .those m .0 (inr i) .0, ascends-from (λ k. k .key) (suc (n .key)) rest (f .ascend .1) m i),
+          λ h. ⊎-elim
+              (λ p. absurd (omega (arith, h .1, ap (λ k. k .key) p)))
+              (λ i. i)
+              (f .those m .1 (h .0, omega (arith, h .1, f .ascend .0))),
+        );
+      }
+
+  -- the same along a lane
+  pub lane-ahead : (i k : ℕ) → In k (laneOf i rest) ↔ (In k (laneOf i ns) × (n .key < k))
+  lane-ahead i k = (
+    λ h. let s = in-lane i k rest .0 h in
+        let t = rest-ahead .those (s .0) .0 (s .1) in
+        (in-lane i k ns .1 (s .0, t .0, s .2), omega (arith, t .1, s .2 .1)),
+    λ h. let s = in-lane i k ns .0 (h .0) in
+        in-lane i k rest .1 (s .0, rest-ahead .those (s .0) .1 (s .1, omega (arith, h .1, s .2 .1)), s .2),
+  )
+
+  -- a lane's edge out of the node leads to the first of the lane's keys ahead
+  pub next-edge : Asc 0 ns → (i y : ℕ) → ((i < n .level) × (firstOf (laneOf i rest) ≡ some y)) ↔ In (edgeOf (n .key) y) (edgesIn i ns)
+  next-edge a i y = (
+    λ h. let s = least .0 (h .1) in
+        let t = lane-ahead i y .0 (s .0) in
+        edge-rule i 0 (edgeOf (n .key) y) ns a .1
+        (record {
+          from-in = in-own-lane i n ns node-ahead (h .0);
+          to-in = t .0;
+          upward = t .1;
+          none-between = λ k m. ⊎-elim inl (λ l. inr (s .1 k (lane-ahead i k .1 (m, l)))) (at-most-or-above k (n .key));
+        }),
+    λ m. let j = edge-rule i 0 (edgeOf (n .key) y) ns a .0 m in
+        let s = in-lane i (n .key) ns .0 (j .from-in) in
+        let p = ascends-once (λ k. k .key) 0 ns a (s .0) n (s .1) node-ahead (s .2 .1) in (
+          subst (λ k. i < k .level) p (s .2 .0),
+          least .1 (
+            lane-ahead i y .1 (j .to-in, j .upward),
+            λ k g. let t = lane-ahead i k .0 g in
+                ⊎-elim (λ l. absurd (omega arith)) (λ l. l) (j .none-between k (t .0)),
+          ),
+        ),
+  )
+    where
+      least : (firstOf (laneOf i rest) ≡ some y) ↔ (In y (laneOf i rest) × Each (λ k. y ≤ k) (laneOf i rest))
+      least = first-least (λ k. k) (suc (n .key)) (laneOf i rest) (lane-ascends i (suc (n .key)) rest (f .ascend .1)) y
+
+-- the nodes from any place on are ahead
+from-place-ahead : (ns : List Node) (j c : ℕ) (ms : List Node) → Ahead ns c ms → (d : ℕ) × Ahead ns d (drop j ms)
+from-place-ahead ns zero c ms f = (c, f)
+from-place-ahead ns (suc j) c [] f = (c, f)
+from-place-ahead ns (suc j) c (n ∷ rest) f = from-place-ahead ns j (suc (n .key)) rest (rest-ahead f)
+
+-- out of the node at a place: it takes part and y is the lane's next key exactly when the lane has the edge from it to y
+pub edge-here : (ns : List Node) → Asc 0 ns → (i j : ℕ) (n : Node) (rest : List Node) → drop j ns ≡ n ∷ rest → (y : ℕ)
+    → ((i < n .level) × (firstOf (laneOf i rest) ≡ some y)) ↔ In (edgeOf (n .key) y) (edgesIn i ns)
+edge-here ns a i j n rest at =
+    let f = from-place-ahead ns j 0 ns (all-ahead ns a) in next-edge (subst (Ahead ns (f .0)) at (f .1)) a i

@@ -17,12 +17,15 @@ pub mod EdgesOut
 pub mod LocalMarks
 pub mod SearchReaches
 pub mod OverOnce
+pub mod Links
 pub mod MarkedSlots
+pub mod Stops
 pub mod Changes
 pub mod Readouts
 pub mod BoxSaysNo
 pub mod Faults
 pub mod SoundMemory
+pub mod Staircase
 pub mod TakenOver
 pub mod MetOnce
 pub mod StandingKept

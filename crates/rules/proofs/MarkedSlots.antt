@@ -15,14 +15,11 @@ use Rattle.rules.specs.HallLine.{Band}
 use Rattle.rules.specs.NodesLanesEdges.{Node, Edge, edgeOf, lanes, takesPart, laneOf, edgesAlong, edgesIn}
 use Rattle.rules.specs.Marks.{edgeMarked, nodeMarked, edgeMarksIn, marksOf}
 use Rattle.rules.specs.Staircase.{slotNumber, linkMarked, markedLinks, markedSlotsFrom, markedSlots}
-use Rattle.rules.proofs.Means.{Means, reworded, itself, never, and-means}
-use Rattle.rules.proofs.Lists.{In, Some, Ascends, ascends-lower, in-addIf, in-append, first-in, SomeLane, some-lane-up}
+use Rattle.rules.proofs.Means.{Means, reworded, itself, and-means}
+use Rattle.rules.proofs.Lists.{In, Some, Ascends, ascends-lower, in-addIf, in-append, SomeLane, some-lane-up}
 use Rattle.rules.proofs.NodesLanesEdges.{Asc, takes-part-means}
+use Rattle.rules.proofs.Links.{linkIn, first-link-means}
 use Rattle.rules.proofs.EdgesOut.{at-some-place, LeadsOut, edge-out-of, edge-once}
-
--- the rule marks the edge out of n in lane i, with `rest` after n
-abbrev outMarked : List Node → Band → Node → List Node → ℕ → Bool
-outMarked ns b n rest i = takesPart i n and linkMarked ns b i (n .key) (laneOf i rest)
 
 -- ---- ascending
 
@@ -37,7 +34,7 @@ module _ (ns : List Node) (b : Band) where
   unfolding slotNumber
   links-ascend j n rest ys d i zero l a = ascends-lower (λ s. s) (slotNumber j (suc i)) d ys (omega arith) a
   links-ascend j n rest ys d i (suc m) l a =
-      ascends-first (outMarked ns b n rest i) (slotNumber j (suc i)) (slotNumber j (suc (suc i))) (markedLinks ns b j n rest (suc i) m) ys
+      ascends-first (linkIn ns b n rest i) (slotNumber j (suc i)) (slotNumber j (suc (suc i))) (markedLinks ns b j n rest (suc i) m) ys
       (omega arith) (links-ascend j n rest ys d (suc i) m (omega arith) a)
 
   slots-ascend-from : (j : ℕ) (ms : List Node) → Ascends (λ s. s) (slotNumber j 0) (markedSlotsFrom ns b j ms)
@@ -80,7 +77,7 @@ module _ (ns : List Node) (b : Band) where
       omega (
         arith,
         first-edge i (n .key) (takesPart i n) (laneOf i rest),
-        length-add (outMarked ns b n rest i) (slotNumber j (suc i)) (markedLinks ns b j n rest (suc i) m),
+        length-add (linkIn ns b n rest i) (slotNumber j (suc i)) (markedLinks ns b j n rest (suc i) m),
         link-count j n rest (suc i) m,
       )
 
@@ -117,15 +114,9 @@ unfolding slotNumber
 slots-apart j k t u l m e = (omega arith, omega arith)
 
 module _ (ns : List Node) (b : Band) where
-  link-means : (i x : ℕ) (ks : List ℕ)
-      → Means (linkMarked ns b i x ks) ((y : ℕ) × (firstOf ks ≡ some y) × (edgeMarked ns b i (edgeOf x y) ≡ true))
-  unfolding linkMarked
-  link-means i x [] = record { fact = never; test = λ s. absurd (first-in (s .0) [] (s .1)) }
-  link-means i x (y ∷ ys) = record { fact = λ h. (y, refl, h); test = λ s. let p : y ≡ s .0 = cc in rw p (s .2) }
-
-  out-means : (i : ℕ) (n : Node) (rest : List Node) → Means (outMarked ns b n rest i) (SlotMarked ns b (n ∷ rest) (suc i))
+  out-means : (i : ℕ) (n : Node) (rest : List Node) → Means (linkIn ns b n rest i) (SlotMarked ns b (n ∷ rest) (suc i))
   out-means i n rest =
-      reworded (and-means (takes-part-means i n) (link-means i (n .key) (laneOf i rest)))
+      reworded (and-means (takes-part-means i n) (first-link-means ns b i (n .key) (laneOf i rest)))
       (λ h. (h .0, h .1 .0, h .1 .1, h .1 .2)) (λ h. (h .0, (h .1, h .2, h .3)))
 
   -- of the m slots from slot t up of the first of these nodes, with j before it, some is marked and has number s; slots count as lanes do
@@ -142,7 +133,7 @@ module _ (ns : List Node) (b : Band) where
   in-links : (s j : ℕ) (n : Node) (rest : List Node) (i m : ℕ) → In s (markedLinks ns b j n rest i m) ↔ Numbers s j (n ∷ rest) (suc i) m
   in-links s j n rest i zero = (λ h. absurd h, λ h. absurd (omega arith))
   in-links s j n rest i (suc m) =
-      first-slot s j (suc i) m (n ∷ rest) (outMarked ns b n rest i) _ (out-means i n rest) (in-links s j n rest (suc i) m)
+      first-slot s j (suc i) m (n ∷ rest) (linkIn ns b n rest i) _ (out-means i n rest) (in-links s j n rest (suc i) m)
 
   -- the slots listed are the marked slots of the places
   in-slots : (s : ℕ) → In s (markedSlots ns b) ↔ ((j : ℕ) × Numbers s j (drop j ns) 0 (suc lanes))
