@@ -1,5 +1,6 @@
--- What the definitions mean. A file bears the name of the file of specs/ whose laws it holds;
--- Connectives and Faults hold laws in the form that code asks for.
+-- What the definitions mean, and what follows from them. A file here bears the name of the file of specs/ whose laws it holds; besides,
+-- Means has the form of those laws, Sums the laws of sums and counts, and Connectives and Faults hold laws in the form that code asks for.
+-- The theory of lanes and marks, which builds on these files, stands in Theory/, with its own index.
 pub mod Means
 pub mod Lists
 pub mod Sums
@@ -8,31 +9,14 @@ pub mod HallLine
 pub mod NodesLanesEdges
 pub mod Profile
 pub mod Marks
-pub mod MarksInUse
 pub mod Flags
 pub mod Search
-pub mod LooksAreSteps
-pub mod EdgesNest
-pub mod EdgesOut
-pub mod LocalMarks
-pub mod SearchReaches
-pub mod OverOnce
-pub mod Links
-pub mod MarkedSlots
-pub mod Stops
 pub mod Changes
 pub mod Readouts
 pub mod BoxSaysNo
 pub mod Faults
 pub mod SoundMemory
-pub mod Staircase
-pub mod TakenOver
-pub mod MetOnce
-pub mod StandingKept
-pub mod RemoveRefusals
 pub mod BenchCard
 pub mod Reach
-pub mod Stretches
-pub mod StretchesOfCalls
-pub mod Alone
 pub mod BenchTable
+pub mod Theory

@@ -14,7 +14,7 @@ use Rattle.rules.proofs.Means.{Means, reworded, at-most-or-above}
 use Rattle.rules.proofs.Lists.{In, Some, Each, some-or-none, ascends-once}
 use Rattle.rules.proofs.NodesLanesEdges.{Asc, Level, in-lane}
 use Rattle.rules.proofs.Marks.{Inside, Contains, contains-means, PassesOver, passes-over-means, edge-mark-rule, node-mark-rule}
-use Rattle.rules.proofs.EdgesNest.{lane-falls, in-own-lane, joins, nested, same-edge, edge-between, edge-over, none-over-own}
+use Rattle.rules.proofs.Theory.EdgesNest.{lane-falls, in-own-lane, joins, nested, same-edge, edge-between, edge-over, none-over-own}
 
 -- the edge of the list that is so is absent, or it does not lie inside the band
 abbrev pub AbsentOrOutside : (Edge → Type 0) → Band → List Edge → Type 0

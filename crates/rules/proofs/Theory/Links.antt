@@ -18,7 +18,7 @@ use Rattle.rules.specs.Staircase.{slotNumber, linkMarked, markedLinks}
 use Rattle.rules.proofs.Means.{Means, reworded, denied, and-means, never}
 use Rattle.rules.proofs.Lists.{In, EachLane, first-in}
 use Rattle.rules.proofs.NodesLanesEdges.{Asc, takes-part-means}
-use Rattle.rules.proofs.EdgesOut.{Ahead, next-edge}
+use Rattle.rules.proofs.Theory.EdgesOut.{Ahead, next-edge}
 
 -- the link to the first key ahead is marked exactly when that edge is
 pub first-link-means : (ns : List Node) (b : Band) (i x : ℕ) (ys : List ℕ)

@@ -16,7 +16,7 @@ use Rattle.rules.specs.NodesLanesEdges.{Node, Edge, edgeOf, takesPart, l
 use Rattle.rules.proofs.Means.{never, at-most-or-above}
 use Rattle.rules.proofs.Lists.{In, Each, ascends-from, ascends-once, first-in, first-least}
 use Rattle.rules.proofs.NodesLanesEdges.{Asc, takes-part-means, in-lane, lane-ascends, edge-rule}
-use Rattle.rules.proofs.EdgesNest.{in-own-lane}
+use Rattle.rules.proofs.Theory.EdgesNest.{in-own-lane}
 
 -- what is so of a list, counted from c on, exactly when it is so at its first place or of the list after it, is so at some place
 module _ {A : Type 0} (X P : ℕ → List A → Type 0) (empty : (c : ℕ) → X c [] → ⊥) (nowhere : (c : ℕ) → P c [] → ⊥)

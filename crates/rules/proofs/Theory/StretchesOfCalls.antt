@@ -22,9 +22,9 @@ use Rattle.rules.proofs.Marks.{node-mark-rule, in-marked-on-edge, in-ma
 use Rattle.rules.proofs.Changes.{insert-keeps-others, remove-keeps-others}
 use Rattle.rules.proofs.BoxSaysNo.{insert-keeps, remove-keeps}
 use Rattle.rules.proofs.SoundMemory.{Standing}
-use Rattle.rules.proofs.StandingKept.{insert-keeps-standing, remove-keeps-standing}
+use Rattle.rules.proofs.Theory.StandingKept.{insert-keeps-standing, remove-keeps-standing}
 use Rattle.rules.proofs.Reach.{KeepsMarks, reaches-only-stretches-means}
-use Rattle.rules.proofs.Stretches.{Side, sides, Clear, ClearAt, clear-edge-stays, edge-mark-stays, node-mark-stays, held-node-stays}
+use Rattle.rules.proofs.Theory.Stretches.{Side, sides, Clear, ClearAt, clear-edge-stays, edge-mark-stays, node-mark-stays, held-node-stays}
 
 -- the nodes of a standing profile are on the line
 pub nodes-on-line : (p : Profile) → Standing p → Each (λ n. n .key ≤ highestKey) (p .nodes)

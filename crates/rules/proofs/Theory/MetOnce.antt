@@ -20,9 +20,9 @@ use Rattle.rules.proofs.Lists.{In, Some, Each, Distinct, any-means, all
 use Rattle.rules.proofs.Profile.{NumbersAsc}
 use Rattle.rules.proofs.Marks.{in-numbers, numbersHolding, length-of-numbers}
 use Rattle.rules.proofs.Flags.{flag-set-where-in, count-without-repeats, flags-by-members}
-use Rattle.rules.proofs.SearchReaches.{takes-over}
+use Rattle.rules.proofs.Theory.SearchReaches.{takes-over}
 use Rattle.rules.proofs.Sums.{at-most-one, count-all, count-one, in-counted, distinct-by-counts}
-use Rattle.rules.proofs.TakenOver.{Laid, standing-laid, asked, count-numbers, taken-over-count}
+use Rattle.rules.proofs.Theory.TakenOver.{Laid, standing-laid, asked, count-numbers, taken-over-count}
 use Rattle.rules.proofs.SoundMemory.{Standing}
 
 -- of ascending bands those with one number are one or none

@@ -18,8 +18,8 @@ use Rattle.rules.specs.Staircase.{slotNumber, linkMarked, markedLinks, m
 use Rattle.rules.proofs.Means.{Means, reworded, itself, and-means}
 use Rattle.rules.proofs.Lists.{In, Some, Ascends, ascends-lower, in-addIf, in-append, SomeLane, some-lane-up}
 use Rattle.rules.proofs.NodesLanesEdges.{Asc, takes-part-means}
-use Rattle.rules.proofs.Links.{linkIn, first-link-means}
-use Rattle.rules.proofs.EdgesOut.{at-some-place, LeadsOut, edge-out-of, edge-once}
+use Rattle.rules.proofs.Theory.Links.{linkIn, first-link-means}
+use Rattle.rules.proofs.Theory.EdgesOut.{at-some-place, LeadsOut, edge-out-of, edge-once}
 
 -- ---- ascending
 

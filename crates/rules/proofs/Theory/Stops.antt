@@ -16,7 +16,7 @@ use Rattle.rules.proofs.Lists.{In, Each}
 use Rattle.rules.proofs.HallLine.{held-between}
 use Rattle.rules.proofs.NodesLanesEdges.{Asc, Level, NodeAt}
 use Rattle.rules.proofs.Marks.{Inside, Contains, PassesOver, edge-mark-rule, node-mark-rule}
-use Rattle.rules.proofs.EdgesNest.{in-own-lane, joins, nested, edge-between, none-over-own}
+use Rattle.rules.proofs.Theory.EdgesNest.{in-own-lane, joins, nested, edge-between, none-over-own}
 
 module _ (ns : List Node) (b : Band) where
   -- a stop: no edge inside the band passes strictly over the key

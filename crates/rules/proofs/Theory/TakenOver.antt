@@ -18,7 +18,7 @@ use Rattle.rules.proofs.NodesLanesEdges.{Asc, Level, NodeAt}
 use Rattle.rules.proofs.Marks.{numbersHolding}
 use Rattle.rules.proofs.Search.{markedAlong, edgesOver, takenOver}
 use Rattle.rules.proofs.Sums.{count-append, count-sum, count-none, sum-same, sum-plus, count-by-rows-or-columns}
-use Rattle.rules.proofs.OverOnce.{timesOverIn, timesOnNode, timesOver, over-once}
+use Rattle.rules.proofs.Theory.OverOnce.{timesOverIn, timesOnNode, timesOver, over-once}
 use Rattle.rules.proofs.SoundMemory.{Standing}
 
 -- nodes in key order with right levels, one at each end of each band

@@ -21,9 +21,9 @@ use Rattle.rules.proofs.Changes.{in-inserted-bands, in-removed-bands}
 use Rattle.rules.proofs.BoxSaysNo.{BandRight, RemoveTaken, insert-keeps, remove-keeps}
 use Rattle.rules.proofs.SoundMemory.{Standing}
 use Rattle.rules.proofs.Reach.{answers-alike-means}
-use Rattle.rules.proofs.TakenOver.{standing-laid}
-use Rattle.rules.proofs.MetOnce.{taken-are-held, met-is-count}
-use Rattle.rules.proofs.StandingKept.{insert-keeps-standing, remove-keeps-standing}
+use Rattle.rules.proofs.Theory.TakenOver.{standing-laid}
+use Rattle.rules.proofs.Theory.MetOnce.{taken-are-held, met-is-count}
+use Rattle.rules.proofs.Theory.StandingKept.{insert-keeps-standing, remove-keeps-standing}
 
 -- a machine's band holds no key of another machine
 pub holds-no-other : (b : Band) → BandRight b → b .scope < machines → (k : ℕ) → ownKey (b .scope) k ≡ false → holds b k ≡ false

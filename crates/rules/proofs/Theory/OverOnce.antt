@@ -17,7 +17,7 @@ use Rattle.rules.proofs.Lists.{In, Some, Each, any-means, lane-means, l
 use Rattle.rules.proofs.HallLine.{Past, Before, holds-means}
 use Rattle.rules.proofs.NodesLanesEdges.{Asc, NodeAt, in-lane, edges-ascend, stands-at-means}
 use Rattle.rules.proofs.Marks.{PassesOver, passes-over-means, passed-over-in-lane-means, edge-mark-rule}
-use Rattle.rules.proofs.EdgesNest.{nested, same-edge, edge-over}
+use Rattle.rules.proofs.Theory.EdgesNest.{nested, same-edge, edge-over}
 use Rattle.rules.proofs.Sums.{count-one, lanes-same, highest-once}
 
 -- how often the band is marked on the edges of lane i that pass over k

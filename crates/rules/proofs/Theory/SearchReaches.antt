@@ -18,7 +18,7 @@ use Rattle.rules.proofs.Lists.{In, Each, each-cons, in-kept, keep-none,
 use Rattle.rules.proofs.NodesLanesEdges.{takes-part-means, in-lane, Asc, lane-ascends, Joins, edge-rule, edges-ascend}
 use Rattle.rules.proofs.Marks.{PassesOver, passes-over-means}
 use Rattle.rules.proofs.Search.{markedAlong, edgesOver, takenOver}
-use Rattle.rules.proofs.EdgesNest.{lane-falls, in-own-lane, joins, same-edge, none-over-own}
+use Rattle.rules.proofs.Theory.EdgesNest.{lane-falls, in-own-lane, joins, same-edge, none-over-own}
 
 -- the nodes after the header are all, the nodes after the node at x those of greater key
 abbrev pub after : Here → List Node → List Node

@@ -21,13 +21,13 @@ use Rattle.rules.specs.Staircase.{slotNumber, markedLinks, markedSlotsFr
 use Rattle.rules.proofs.Means.{Means, denied, never}
 use Rattle.rules.proofs.Lists.{In, Each, some-cons, first-in, Ascends}
 use Rattle.rules.proofs.NodesLanesEdges.{Asc, Level, NodeAt, takes-part-means, in-lane}
-use Rattle.rules.proofs.EdgesNest.{joins}
-use Rattle.rules.proofs.Stops.{Stop, Beyond, Bare, IsStair, low-is-stop, stop-mark, beyond-unmarked, outside-bare, at-high, stair-marked, none-beside, passed-bare, stair-to-stop}
+use Rattle.rules.proofs.Theory.EdgesNest.{joins}
+use Rattle.rules.proofs.Theory.Stops.{Stop, Beyond, Bare, IsStair, low-is-stop, stop-mark, beyond-unmarked, outside-bare, at-high, stair-marked, none-beside, passed-bare, stair-to-stop}
 use Rattle.rules.proofs.SoundMemory.{Standing}
 use Rattle.rules.proofs.Sums.{sum-same}
-use Rattle.rules.proofs.EdgesOut.{LeadsOut, Ahead, all-ahead, node-ahead, rest-ahead, lane-ahead, next-edge}
-use Rattle.rules.proofs.Links.{link-means, link-bare, no-links, one-link}
-use Rattle.rules.proofs.MarkedSlots.{SlotMarked, slot-rule, every-slot, slots-ascend, slot-count, out-slot}
+use Rattle.rules.proofs.Theory.EdgesOut.{LeadsOut, Ahead, all-ahead, node-ahead, rest-ahead, lane-ahead, next-edge}
+use Rattle.rules.proofs.Theory.Links.{link-means, link-bare, no-links, one-link}
+use Rattle.rules.proofs.Theory.MarkedSlots.{SlotMarked, slot-rule, every-slot, slots-ascend, slot-count, out-slot}
 
 -- ---- the highest stair
 

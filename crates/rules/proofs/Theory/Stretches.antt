@@ -16,7 +16,7 @@ use Rattle.rules.proofs.Lists.{In, Some, Each}
 use Rattle.rules.proofs.HallLine.{held-between}
 use Rattle.rules.proofs.NodesLanesEdges.{NodeAt, in-lane, Asc, Joins, edge-rule}
 use Rattle.rules.proofs.Marks.{Contains, PassesOver, edge-mark-rule, node-mark-rule}
-use Rattle.rules.proofs.EdgesNest.{in-own-lane, joins}
+use Rattle.rules.proofs.Theory.EdgesNest.{in-own-lane, joins}
 use Rattle.rules.proofs.Reach.{present-means, in-present-both, in-made-or-dropped, stretch-runs, LiesIn, StrictlyInside}
 
 -- One side of a change, here, and the other, there: the nodes here ascend on the line, those present on both sides are among them,
