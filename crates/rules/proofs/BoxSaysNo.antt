@@ -277,7 +277,7 @@ module _ (b : Band) (lo hi : ℕ) where
   fault-of-levels z = lowest-past (bandLines b) (levelWrong lo hi ∷ []) (lowest-zero (bandLines b) (omega arith) .0 z)
 
 -- an insert that nothing refuses
-pub record InsertTaken (sizesRight sound : Bool) (room : Room) (p : Profile) (b : Band) (lo hi : ℕ) : Type 0 where
+pub record InsertAccepted (sizesRight sound : Bool) (room : Room) (p : Profile) (b : Band) (lo hi : ℕ) : Type 0 where
   pub memory-right : (sizesRight ≡ true) × (sound ≡ true)
   pub band-right : BandRight b
   pub levels-right : Level lo × Level hi
@@ -286,7 +286,7 @@ pub record InsertTaken (sizesRight sound : Bool) (room : Room) (p : Profile) (b 
   pub marks-fit : marksInUse (inserted p b lo hi) ≤ room .marks
 
 -- a remove that nothing refuses
-pub record RemoveTaken (sizesRight sound : Bool) (room : Room) (p : Profile) (number scope : ℕ) : Type 0 where
+pub record RemoveAccepted (sizesRight sound : Bool) (room : Room) (p : Profile) (number scope : ℕ) : Type 0 where
   pub memory-right : (sizesRight ≡ true) × (sound ≡ true)
   pub scope-right : scope ≤ house
   pub number-right : number ≤ highestBandNumber
@@ -295,9 +295,9 @@ pub record RemoveTaken (sizesRight sound : Bool) (room : Room) (p : Profile) (nu
   pub marks-fit : marksInUse (removed p number) ≤ room .marks
 
 module _ (sizesRight sound : Bool) (room : Room) (p : Profile) where
-  pub insert-taken : (b : Band) (lo hi : ℕ) → (insertRefusal sizesRight sound room p b lo hi ≡ 0) ↔ InsertTaken sizesRight sound room p b lo hi
+  pub insert-accepted : (b : Band) (lo hi : ℕ) → (insertRefusal sizesRight sound room p b lo hi ≡ 0) ↔ InsertAccepted sizesRight sound room p b lo hi
   unfolding insertRefusal isLive
-  insert-taken b lo hi =
+  insert-accepted b lo hi =
       Iff·trans
       (line-zero 1 (omega arith) (not-fails (and-means (itself sizesRight) (itself sound)))
       (band-lines-zero b
@@ -317,9 +317,9 @@ module _ (sizesRight sound : Bool) (room : Room) (p : Profile) where
         λ t. (t .memory-right, (t .band-right, (t .levels-right, (t .number-free, (t .nodes-fit, t .marks-fit))))),
       )
 
-  pub remove-taken : (number scope : ℕ) → (removeRefusal sizesRight sound room p number scope ≡ 0) ↔ RemoveTaken sizesRight sound room p number scope
+  pub remove-accepted : (number scope : ℕ) → (removeRefusal sizesRight sound room p number scope ≡ 0) ↔ RemoveAccepted sizesRight sound room p number scope
   unfolding removeRefusal
-  remove-taken number scope =
+  remove-accepted number scope =
       Iff·trans
       (line-zero 1 (omega arith) (not-fails (and-means (itself sizesRight) (itself sound)))
       (line-zero 2 (omega arith) (lt-fails house scope)
@@ -339,35 +339,35 @@ module _ (sizesRight sound : Bool) (room : Room) (p : Profile) where
       )
 
 module _ (sizesRight : Bool) where
-  pub empty-taken : (emptyRefusal sizesRight ≡ 0) ↔ (sizesRight ≡ true)
+  pub empty-accepted : (emptyRefusal sizesRight ≡ 0) ↔ (sizesRight ≡ true)
   unfolding emptyRefusal
-  empty-taken = last-zero 1 (omega arith) (not-fails (itself sizesRight))
+  empty-accepted = last-zero 1 (omega arith) (not-fails (itself sizesRight))
 
-  pub room-taken : (roomReadRefusal sizesRight ≡ 0) ↔ (sizesRight ≡ true)
+  pub room-accepted : (roomReadRefusal sizesRight ≡ 0) ↔ (sizesRight ≡ true)
   unfolding roomReadRefusal
-  room-taken = last-zero 1 (omega arith) (not-fails (itself sizesRight))
+  room-accepted = last-zero 1 (omega arith) (not-fails (itself sizesRight))
 
-  pub stab-taken : (k : ℕ) → (stabRefusal sizesRight k ≡ 0) ↔ ((sizesRight ≡ true) × (k ≤ highestKey))
+  pub stab-accepted : (k : ℕ) → (stabRefusal sizesRight k ≡ 0) ↔ ((sizesRight ≡ true) × (k ≤ highestKey))
   unfolding stabRefusal
-  stab-taken k = line-zero 1 (omega arith) (not-fails (itself sizesRight)) (last-zero 4 (omega arith) (lt-fails highestKey k))
+  stab-accepted k = line-zero 1 (omega arith) (not-fails (itself sizesRight)) (last-zero 4 (omega arith) (lt-fails highestKey k))
 
   module _ (p : Profile) where
-    pub band-taken : (n : ℕ) → (bandReadRefusal sizesRight p n ≡ 0) ↔ ((sizesRight ≡ true) × ((n ≤ highestBandNumber) × Some (λ b. b .number ≡ n) (p .bands)))
+    pub band-accepted : (n : ℕ) → (bandReadRefusal sizesRight p n ≡ 0) ↔ ((sizesRight ≡ true) × ((n ≤ highestBandNumber) × Some (λ b. b .number ≡ n) (p .bands)))
     unfolding bandReadRefusal
-    band-taken n =
+    band-accepted n =
         line-zero 1 (omega arith) (not-fails (itself sizesRight))
         (line-zero 3 (omega arith) (lt-fails highestBandNumber n) (last-zero 9 (omega arith) (not-fails (is-live-means n (p .bands)))))
 
-    pub node-taken : (k : ℕ) → (nodeReadRefusal sizesRight p k ≡ 0) ↔ ((sizesRight ≡ true) × ((k ≤ highestKey) × NodeAt k (p .nodes)))
+    pub node-accepted : (k : ℕ) → (nodeReadRefusal sizesRight p k ≡ 0) ↔ ((sizesRight ≡ true) × ((k ≤ highestKey) × NodeAt k (p .nodes)))
     unfolding nodeReadRefusal
-    node-taken k =
+    node-accepted k =
         line-zero 1 (omega arith) (not-fails (itself sizesRight))
         (line-zero 4 (omega arith) (lt-fails highestKey k) (last-zero 13 (omega arith) (not-fails (stands-at-means k (p .nodes)))))
 
-    pub edge-taken : (k i : ℕ)
+    pub edge-accepted : (k i : ℕ)
         → (edgeReadRefusal sizesRight p k i ≡ 0) ↔ ((sizesRight ≡ true) × ((k ≤ highestKey) × (NodeAt k (p .nodes) × (i < levelAt k (p .nodes)))))
     unfolding edgeReadRefusal
-    edge-taken k i =
+    edge-accepted k i =
         line-zero 1 (omega arith) (not-fails (itself sizesRight))
         (line-zero 4 (omega arith) (lt-fails highestKey k)
         (line-zero 13 (omega arith) (not-fails (stands-at-means k (p .nodes)))
@@ -402,21 +402,21 @@ pub empty-keeps : (P : Profile → Type 0) (sizesRight : Bool) (p : Profile) →
     → P (emptyOutcome sizesRight p .profile)
 unfolding emptyOutcome
 empty-keeps P sizesRight p before after =
-    change-keeps P (emptyRefusal sizesRight) p emptyProfile before (λ z. after (empty-taken sizesRight .0 z))
+    change-keeps P (emptyRefusal sizesRight) p emptyProfile before (λ z. after (empty-accepted sizesRight .0 z))
 
 module _ (P : Profile → Type 0) (sizesRight sound : Bool) (room : Room) (p : Profile) where
   -- .. of an insert ..
-  pub insert-keeps : (b : Band) (lo hi : ℕ) → P p → (InsertTaken sizesRight sound room p b lo hi → P (inserted p b lo hi))
+  pub insert-keeps : (b : Band) (lo hi : ℕ) → P p → (InsertAccepted sizesRight sound room p b lo hi → P (inserted p b lo hi))
       → P (insertOutcome sizesRight sound room p b lo hi .profile)
   unfolding insertOutcome
   insert-keeps b lo hi before after =
       change-keeps P (insertRefusal sizesRight sound room p b lo hi) p (inserted p b lo hi) before
-      (λ z. after (insert-taken sizesRight sound room p b lo hi .0 z))
+      (λ z. after (insert-accepted sizesRight sound room p b lo hi .0 z))
 
   -- .. and of a remove
-  pub remove-keeps : (number scope : ℕ) → P p → (RemoveTaken sizesRight sound room p number scope → P (removed p number))
+  pub remove-keeps : (number scope : ℕ) → P p → (RemoveAccepted sizesRight sound room p number scope → P (removed p number))
       → P (removeOutcome sizesRight sound room p number scope .profile)
   unfolding removeOutcome
   remove-keeps number scope before after =
       change-keeps P (removeRefusal sizesRight sound room p number scope) p (removed p number) before
-      (λ z. after (remove-taken sizesRight sound room p number scope .0 z))
+      (λ z. after (remove-accepted sizesRight sound room p number scope .0 z))

@@ -38,7 +38,7 @@ MadeAtEnd b lo hi ns n =
     ⊎ ((n ≡ nodeOf (b .high) hi) × (b .high ≡ b .low → ⊥) × NoNodeAt (b .high) ns)
 
 module _ (b : Band) (lo hi : ℕ) (ns : List Node) where
-  -- a node stands after at both ends and where one stood
+  -- afterwards a node stands at both ends and wherever one stood
   pub at-with-ends : (k : ℕ) → NodeAt k (withEnds b lo hi ns) ↔ (EndOf k b ⊎ NodeAt k ns)
   unfolding withEnds
   at-with-ends k =
@@ -155,10 +155,10 @@ module _ (p : Profile) (number : ℕ) where
   unfolding removed
   removed-nodes-ascend = nodes-left-ascend (hasNumber number) p
 
-  -- a remove makes no node
-  pub removed-nodes-fewer : length (removed p number .nodes) ≤ length (p .nodes)
+  -- after a remove there are no more nodes than before
+  pub removed-nodes-no-more : length (removed p number .nodes) ≤ length (p .nodes)
   unfolding removed withoutWhere nodesAtEnds
-  removed-nodes-fewer = length-keep _ (p .nodes)
+  removed-nodes-no-more = length-keep _ (p .nodes)
 
   -- no band of another number comes or goes
   pub remove-keeps-others : (b : Band) → (b .number ≡ number → ⊥) → In b (removed p number .bands) ↔ In b (p .bands)

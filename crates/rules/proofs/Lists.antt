@@ -1,4 +1,4 @@
--- What the tests over lists and lanes mean, by membership; ascending lists; who stands in a list made of another.
+-- What the tests over lists and lanes mean, by membership; places in a list; ascending lists; who stands in a list made of another.
 -- Assumes nothing.
 use Prim.Native.Nat.{ℕ, zero, suc, _+_, _≤_, _<_}
 use mathlib.Core.Path.{_≡_, refl, sym, _∙_, ap, ap₂, subst, subst⁻¹}
@@ -9,7 +9,8 @@ use mathlib.Core.Option.{none, some}
 use native.Mathlib.Omega.{arith}
 use native.Mathlib.Nat.{eq-or-lt-of-le}
 use lib.Dec.{ltb}
-use lib.ListN.{length}
+use lib.ListN.{length, drop}
+use lib.Seq.{drop-nil}
 use borrow.Author.Tests.{ltb-true, ltb-false, lt-ltb, le-ltb}
 use Rattle.rules.specs.Connectives.{oneIf}
 use Rattle.rules.specs.Lists.{addIf, any, all, keep, firstOf, countIf, member, distinct, someLane, placed, sameNumbers}
@@ -210,6 +211,32 @@ first-in x (y ∷ ys) e = inl (cc)
 pub first-none : {A : Type 0} (xs : List A) → (firstOf xs ≡ none) ↔ Each (λ x. ⊥) xs
 first-none [] = (λ e x i. i, λ h. refl)
 first-none (y ∷ ys) = (λ e x i. let z : _≡_ {A = ℕ} 0 1 = cc in omega arith, λ h. absurd (h y (inl refl)))
+
+-- ---- places
+
+-- X of a list with c elements before it means P there or X of the list after its first element. So X of a whole list means P at some place:
+-- with j elements before it, for some j
+module _ {A : Type 0} (X P : ℕ → List A → Type 0) (empty : (c : ℕ) → X c [] → ⊥) (nowhere : (c : ℕ) → P c [] → ⊥)
+    (first-or-later : (c : ℕ) (x : A) (xs : List A) → X c (x ∷ xs) ↔ (P c (x ∷ xs) ⊎ X (suc c) xs)) where
+  to-place : (c : ℕ) (xs : List A) → X c xs → (j : ℕ) × P (c + j) (drop j xs)
+  to-place c [] h = absurd (empty c h)
+  to-place c (x ∷ xs) h =
+      ⊎-elim
+      (λ p. (0, subst (λ k. P k (x ∷ xs)) (omega arith) p))
+      (λ l. let s = to-place (suc c) xs l in (suc (s .0), subst (λ k. P k (drop (s .0) xs)) (omega arith) (s .1)))
+      (first-or-later c x xs .0 h)
+
+  from-place : (c j : ℕ) (xs : List A) → P (c + j) (drop j xs) → X c xs
+  from-place c j [] p = absurd (nowhere (c + j) (subst (P (c + j)) (drop-nil j) p))
+  from-place c zero (x ∷ xs) p = first-or-later c x xs .1 (inl (subst (λ k. P k (x ∷ xs)) (omega arith) p))
+  from-place c (suc j) (x ∷ xs) p =
+      first-or-later c x xs .1 (inr (from-place (suc c) j xs (subst (λ k. P k (drop j xs)) (omega arith) p)))
+
+  pub at-some-place : (xs : List A) → X 0 xs ↔ ((j : ℕ) × P j (drop j xs))
+  at-some-place xs = (
+    λ h. let s = to-place 0 xs h in (s .0, subst (λ k. P k (drop (s .0) xs)) (omega arith) (s .1)),
+    λ s. from-place 0 (s .0) xs (subst (λ k. P k (drop (s .0) xs)) (omega arith) (s .1)),
+  )
 
 -- ---- lanes
 

@@ -190,7 +190,7 @@ module _ (k l : ℕ) (ns : List Node) where
       (Iff·trans (in-placed (λ m. m .key) (nodeOf k l) n ns) (⊎-elim (λ e. inr (e, h)) inl, ⊎-elim inr (λ m. inl (m .0)))))
       (node-or-none k ns)
 
-  -- a node stands after at the key and where one stood
+  -- afterwards a node stands at the key and wherever one stood
   pub at-with-node : (j : ℕ) → NodeAt j (withNode k l ns) ↔ ((j ≡ k) ⊎ NodeAt j ns)
   at-with-node j = (from, ⊎-elim there still)
     where

@@ -1,12 +1,12 @@
 -- The theory of lanes and marks: what follows from the rules on any standing profile. It knows neither code nor memory. In the order in which
 -- the laws build on each other:
---   EdgesNest         edges of a higher lane contain those below them; between two keys of a lane an edge lies over each key
+--   EdgesNest         of two edges that overlap, that of the higher lane contains the other; a lane's edges lie end to end
 --   EdgesOut          the edges of a lane are those that lead out of its nodes, one out of each
 --   LocalMarks        a mark by looking at one edge alone: that of the next lane, or the lowest over the node
 --   MarksInUse        marks in use, the bands' own counts together, are all edge and node marks
 --   OverOnce          one band: marked once over a key that it holds, and never over another
 --   SearchReaches     the search drops each lane at its last node below the key, and takes what is marked over the key
---   LooksAreSteps     the nodes that the search steps onto are those that the looks count
+--   LooksAreSteps     the search steps onto as many nodes as the looks count
 --   TakenOver         what is marked over a key, counted band by band
 --   MetOnce           the search meets each band that holds the key once, and no other; flags, count and marks met
 --   Links             the marked links of a node
@@ -15,7 +15,7 @@
 --   Staircase         the walk by the highest edge inside the band visits exactly the marked slots
 --   StandingKept      a standing profile stays standing, and a sound one sound, whatever the call
 --   RemoveRefusals    a remove can be refused by 12 and never by 11
---   Stretches         marks outside the stretches are the same before and after, for any two lists of nodes
+--   Stretches         edges in no stretch and their marks are the same before and after, for any two ascending lists of nodes; nodes too
 --   StretchesOfCalls  so of two standing profiles; insert and remove reach only their stretches
 --   Alone             a machine's call leaves flags, count and marks met alone at every other machine's keys
 pub mod EdgesNest

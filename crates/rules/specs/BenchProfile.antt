@@ -42,7 +42,7 @@ abbrev pub wide : Room
 wide = roomOf 2048 16384
 
 -- Bands 1 [100,400], 2 (400,900], 3 [200,300], 4 [250,250], 5 [100,900). Levels 100:1, 200:3, 250:1, 300:2, 400:1, 900:2.
--- They come in mixed order. Levels given for ends that stand already, and for the high end of a one-key band, are wrong on purpose.
+-- They come in mixed order. Levels given for ends that stand already, and for the high end of a one-key band, are not the node's own, on purpose.
 abbrev pub bench : Profile
 bench =
     lived wide emptyProfile

@@ -37,7 +37,7 @@ pub data Row : Type 0 where
   marks : Profile → List ℕ → ℕ → Row
   -- the edges of a lane
   lane : Profile → ℕ → List Edge → Row
-  -- a stab at a key gives these bands, each met once, and so many looks; comparing with each band and counting the search's steps agree
+  -- a stab at a key gives these bands, each met once, and so many looks; the bands that hold the key are these, and the looks are 8 plus the search's steps
   stab : Profile → ℕ → List ℕ → ℕ → Row
   -- a stab at a key flags these numbers, counts and meets so many, and looks so often
   meets : Profile → ℕ → List ℕ → ℕ → ℕ → ℕ → Row

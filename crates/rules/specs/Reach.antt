@@ -20,7 +20,7 @@ answersAlike p q k =
     and eqb (stabOf p k .count) (stabOf q k .count)
     and eqb (stabOf p k .met) (stabOf q k .met)
 
--- a call of scope m below 64, if it is accepted, leaves answers the same at every key of every other machine
+-- from p to q, where m is a machine, flags, count and marks met are the same at every key of every other machine
 abbrev pub OthersAlike : ℕ → Profile → Profile → Type 0
 OthersAlike m p q = m < machines → (k : ℕ) → k ≤ highestKey → ownKey m k ≡ false → answersAlike p q k ≡ true
 

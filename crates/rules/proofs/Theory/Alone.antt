@@ -18,11 +18,11 @@ use Rattle.rules.proofs.Lists.{In, Some, Each, member-means}
 use Rattle.rules.proofs.HallLine.{scope-keeps}
 use Rattle.rules.proofs.Flags.{flags-by-members, count-by-members}
 use Rattle.rules.proofs.Changes.{in-inserted-bands, in-removed-bands}
-use Rattle.rules.proofs.BoxSaysNo.{BandRight, RemoveTaken, insert-keeps, remove-keeps}
+use Rattle.rules.proofs.BoxSaysNo.{BandRight, RemoveAccepted, insert-keeps, remove-keeps}
 use Rattle.rules.proofs.SoundMemory.{Standing}
 use Rattle.rules.proofs.Reach.{answers-alike-means}
 use Rattle.rules.proofs.Theory.TakenOver.{standing-laid}
-use Rattle.rules.proofs.Theory.MetOnce.{taken-are-held, met-is-count}
+use Rattle.rules.proofs.Theory.MetOnce.{taken-are-those-holding, met-is-count}
 use Rattle.rules.proofs.Theory.StandingKept.{insert-keeps-standing, remove-keeps-standing}
 
 -- a machine's band holds no key of another machine
@@ -52,8 +52,8 @@ module _ (m k : ℕ) (l : m < machines) (other : ownKey m k ≡ false) where
     -- .. and what a search takes there in one it takes in the other
     same-taken : (n : ℕ) → member n (taken p k) ≡ member n (taken q k)
     same-taken n =
-        let in-p = taken-are-held p k (standing-laid p before) n in
-        let in-q = taken-are-held q k (standing-laid q after) n in
+        let in-p = taken-are-those-holding p k (standing-laid p before) n in
+        let in-q = taken-are-those-holding q k (standing-laid q after) n in
         same-means (member-means n (taken p k)) (member-means n (taken q k))
         (λ i. in-q .1 (held-too p q (before .bands-right) (λ b o. only b o .0) n (in-p .0 i)))
         (λ i. in-p .1 (held-too q p (after .bands-right) (λ b o. only b o .1) n (in-q .0 i)))
@@ -76,7 +76,7 @@ alone m p q before after only l k on-line other =
     (same-flags m k l other p q before after only, same-count m k l other p q before after only, same-met m k l other p q before after only)
 
 module _ (sizesRight sound : Bool) (room : Room) (p : Profile) (s : Standing p) where
-  -- an insert, accepted or refused, leaves answers the same at every key of every machine but the one of its scope
+  -- an insert of scope below 64, accepted or refused, leaves flags, count and marks met the same at every key of every other machine
   pub insert-alone : (b : Band) (lo hi : ℕ) → OthersAlike (b .scope) p (insertOutcome sizesRight sound room p b lo hi .profile)
   insert-alone b lo hi =
       alone (b .scope) p _ s (insert-keeps-standing sizesRight sound room p b lo hi s)
@@ -93,7 +93,7 @@ module _ (sizesRight sound : Bool) (room : Room) (p : Profile) (s : Standing p) 
       alone scope p _ s (remove-keeps-standing sizesRight sound room p number scope s)
       (remove-keeps (DifferOnlyIn scope p) sizesRight sound room p number scope (λ c o. (λ i. i, λ i. i)) others)
     where
-      others : RemoveTaken sizesRight sound room p number scope → DifferOnlyIn scope p (removed p number)
+      others : RemoveAccepted sizesRight sound room p number scope → DifferOnlyIn scope p (removed p number)
       others t c o =
           let e = in-removed-bands p number c in
           (λ i. e .1 (i, λ same. o (t .scope-same c i same)), λ i. e .0 i .0)

@@ -1,5 +1,5 @@
 -- The edges of all lanes over one ascending list of nodes: a lane's keys stand in every lane below it; of two edges that overlap, that of the
--- higher lane contains the other, so at most one edge of a lane lies over a stretch; between two keys of a lane there is an edge over each key.
+-- higher lane contains the other, so no two edges of a lane overlap; from one key of a lane to another, edges of the lane lie end to end.
 -- Assumes nothing.
 use Prim.Native.Nat.{ℕ, suc, _≤_, _<_}
 use mathlib.Core.Path.{_≡_, refl, subst}
@@ -69,7 +69,7 @@ module _ (c : ℕ) (ns : List Node) (a : Asc c ns) where
       let to : e .to ≡ f .to = omega arith in
       λ t. edgeOf (from t) (to t)
 
-  -- between two keys of a lane there is an edge over each key from the first on
+  -- from one key of a lane up to another, each key is where an edge of the lane begins, or an edge passes over it
   pub edge-between : (i x y k : ℕ) → In x (laneOf i ns) → In y (laneOf i ns) → x ≤ k → k < y
       → Some (λ e. ((x ≤ e .from) × (e .from ≤ k)) × ((k < e .to) × (e .to ≤ y))) (edgesIn i ns)
   edge-between i x y k p q l u =

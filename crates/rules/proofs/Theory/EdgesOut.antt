@@ -1,8 +1,7 @@
--- A place in a list is a number j and the list from there on, `drop j xs`: what is so of a list going by its first element or the list after
--- it is so at some place. The edges of a lane are those that lead out of a node at some place, and, where nodes ascend, at one place only:
--- a lane's edge out of a node leads to the first of the lane's keys after it.
+-- The edges of a lane are those that lead out of a node, and where nodes ascend each leads out of one node only: a lane's edge out of a node
+-- leads to the first of the lane's keys after it. A node is named by how many stand before it: with j before it, it is the first of `drop j ns`.
 -- Assumes nothing.
-use Prim.Native.Nat.{ℕ, zero, suc, _+_, _≤_, _<_}
+use Prim.Native.Nat.{ℕ, zero, suc, _≤_, _<_}
 use mathlib.Core.Path.{_≡_, refl, sym, ap, subst}
 use mathlib.Core.Bool.{Bool, true, false}
 use mathlib.Core.Logic.{_↔_, _⊎_, inl, inr, ⊎-elim, ⊎-map}
@@ -14,32 +13,9 @@ use lib.Seq.{drop-nil}
 use Rattle.rules.specs.Lists.{addIf, firstOf}
 use Rattle.rules.specs.NodesLanesEdges.{Node, Edge, edgeOf, takesPart, laneOf, edgesAlong, edgesIn}
 use Rattle.rules.proofs.Means.{never, at-most-or-above}
-use Rattle.rules.proofs.Lists.{In, Each, ascends-from, ascends-once, first-in, first-least}
+use Rattle.rules.proofs.Lists.{In, Each, at-some-place, ascends-from, ascends-once, first-in, first-least}
 use Rattle.rules.proofs.NodesLanesEdges.{Asc, takes-part-means, in-lane, lane-ascends, edge-rule}
 use Rattle.rules.proofs.Theory.EdgesNest.{in-own-lane}
-
--- what is so of a list, counted from c on, exactly when it is so at its first place or of the list after it, is so at some place
-module _ {A : Type 0} (X P : ℕ → List A → Type 0) (empty : (c : ℕ) → X c [] → ⊥) (nowhere : (c : ℕ) → P c [] → ⊥)
-    (first-or-later : (c : ℕ) (x : A) (xs : List A) → X c (x ∷ xs) ↔ (P c (x ∷ xs) ⊎ X (suc c) xs)) where
-  to-place : (c : ℕ) (xs : List A) → X c xs → (j : ℕ) × P (c + j) (drop j xs)
-  to-place c [] h = absurd (empty c h)
-  to-place c (x ∷ xs) h =
-      ⊎-elim
-      (λ p. (0, subst (λ k. P k (x ∷ xs)) (omega arith) p))
-      (λ l. let s = to-place (suc c) xs l in (suc (s .0), subst (λ k. P k (drop (s .0) xs)) (omega arith) (s .1)))
-      (first-or-later c x xs .0 h)
-
-  from-place : (c j : ℕ) (xs : List A) → P (c + j) (drop j xs) → X c xs
-  from-place c j [] p = absurd (nowhere (c + j) (subst (P (c + j)) (drop-nil j) p))
-  from-place c zero (x ∷ xs) p = first-or-later c x xs .1 (inl (subst (λ k. P k (x ∷ xs)) (omega arith) p))
-  from-place c (suc j) (x ∷ xs) p =
-      first-or-later c x xs .1 (inr (from-place (suc c) j xs (subst (λ k. P k (drop j xs)) (omega arith) p)))
-
-  pub at-some-place : (xs : List A) → X 0 xs ↔ ((j : ℕ) × P j (drop j xs))
-  at-some-place xs = (
-    λ h. let s = to-place 0 xs h in (s .0, subst (λ k. P k (drop (s .0) xs)) (omega arith) (s .1)),
-    λ s. from-place 0 (s .0) xs (subst (λ k. P k (drop (s .0) xs)) (omega arith) (s .1)),
-  )
 
 -- ---- the edges of a lane are the edges out of its nodes
 

@@ -45,18 +45,18 @@ module _ (b : Band) {ns : List Node} {c : ℕ} {n : Node} {rest : List Node} (f 
       (λ h. (h .1 .0, next-edge f a i (h .1 .0) .0 (h .0, h .1 .1), h .1 .2))
       (λ s. let e = next-edge f a i (s .0) .1 (s .1) in (e .0, (s .0, e .1, s .2)))
 
-  -- .. so it is not where no such edge is
+  -- .. so it is not where the edge is not marked, or there is none
   pub link-bare : ((y : ℕ) → In (edgeOf (n .key) y) (edgesIn i ns) → edgeMarked ns b i (edgeOf (n .key) y) ≡ false)
       → linkIn ns b n rest i ≡ false
   link-bare h = denied link-means .test (λ s. never (sym (h (s .0) (s .1)) ∙ s .2))
 
 module _ (ns : List Node) (b : Band) (j : ℕ) (n : Node) (rest : List Node) where
-  -- where no link is marked there is no slot ..
+  -- where no link is marked no slot is listed ..
   pub no-links : (i m : ℕ) → EachLane (λ k. linkIn ns b n rest k ≡ false) i m → markedLinks ns b j n rest i m ≡ []
   no-links i zero h = refl
   no-links i (suc m) h = rw (h i (omega arith) (omega arith)) (no-links (suc i) m (λ k l u. h k (omega arith) (omega arith)))
 
-  -- .. and where one alone is marked there is its slot
+  -- .. and where one alone is marked its slot alone is
   pub one-link : (k i m : ℕ) → i ≤ k → k < i + m → linkIn ns b n rest k ≡ true
       → EachLane (λ l. (l ≡ k → ⊥) → linkIn ns b n rest l ≡ false) i m
       → markedLinks ns b j n rest i m ≡ slotNumber j (suc k) ∷ []

@@ -88,7 +88,8 @@ module _ (ns : List Node) (a : Asc 0 ns) (levels : Each (λ n. Level (n .level))
         (λ h. (h .0, local .0 (λ f p c n. h .1 (suc i) (omega arith) (lane-of-edge (suc i) f p) f p c n)))
         (λ h. (h .0, λ j l u f p c n. let s = next-lane-contains i j e f m l p c in local .1 (h .1) (s .0) (s .1) (s .2 .0) (omega (arith, s .2 .1, n))))
 
-    -- a node is marked exactly when the band holds its key and the lowest edge over it is absent or not inside
+    -- a node is marked exactly when the band holds its key and the lowest edge over it, which is of the lane of the node's level by
+    -- `lowest-over`, is absent or not inside
     pub node-marked-locally : (n : Node) → In n ns
         → Means (nodeMarked ns b (n .key)) ((holds b (n .key) ≡ true) × AbsentOrOutside (λ e. PassesOver e (n .key)) b (edgesIn (n .level) ns))
     node-marked-locally n m =

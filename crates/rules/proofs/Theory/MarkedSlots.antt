@@ -16,10 +16,10 @@ use Rattle.rules.specs.NodesLanesEdges.{Node, Edge, edgeOf, lanes, takes
 use Rattle.rules.specs.Marks.{edgeMarked, nodeMarked, edgeMarksIn, marksOf}
 use Rattle.rules.specs.Staircase.{slotNumber, linkMarked, markedLinks, markedSlotsFrom, markedSlots}
 use Rattle.rules.proofs.Means.{Means, reworded, itself, and-means}
-use Rattle.rules.proofs.Lists.{In, Some, Ascends, ascends-lower, in-addIf, in-append, SomeLane, some-lane-up}
+use Rattle.rules.proofs.Lists.{In, Some, Ascends, ascends-lower, in-addIf, in-append, SomeLane, some-lane-up, at-some-place}
 use Rattle.rules.proofs.NodesLanesEdges.{Asc, takes-part-means}
 use Rattle.rules.proofs.Theory.Links.{linkIn, first-link-means}
-use Rattle.rules.proofs.Theory.EdgesOut.{at-some-place, LeadsOut, edge-out-of, edge-once}
+use Rattle.rules.proofs.Theory.EdgesOut.{LeadsOut, edge-out-of, edge-once}
 
 -- ---- ascending
 
@@ -160,7 +160,7 @@ module _ (ns : List Node) (b : Band) where
     λ h. in-slots (slotNumber j t) .1 (j, (t, omega arith, omega arith, (h, refl))),
   )
 
-  -- each slot listed is one of these
+  -- each number listed is that of a slot of some node
   pub every-slot : (s : ℕ) → In s (markedSlots ns b) → (j : ℕ) × (t : ℕ) × (j < length ns) × (t ≤ lanes) × (s ≡ slotNumber j t)
   every-slot s h =
       let q = in-slots s .0 h in

@@ -1,5 +1,6 @@
 -- Met once: where nodes ascend with right levels and both ends of each band stand, the search at a key takes each band that holds the key
--- once, and no other. So a stab's flags are those of the bands that hold the key, and marks met and the count are how many they are.
+-- once, and no other. So a stab's flags are those of the bands that hold the key, marks met are how many they are, and on a standing profile,
+-- where no two bands share a number, so is the count.
 -- Assumes nothing.
 use Prim.Native.Nat.{ℕ, _<_}
 use mathlib.Core.Path.{_≡_, refl, sym, _∙_, ap, subst}
@@ -39,7 +40,7 @@ one-numbered f n bs a =
 
 module _ (p : Profile) (k : ℕ) where
   module _ (laid : Laid p) where
-    -- whatever is asked of numbers, the search takes as many that pass as there are among the bands that hold the key
+    -- for any test, as many of the numbers taken pass as of the numbers of the bands that hold the key
     pub met-once : (t : ℕ → Bool) → countIf t (taken p k) ≡ countIf t (numbersHolding (p .bands) k)
     met-once t = ap (countIf t) (takes-over p k (laid .keys-ascend)) ∙ taken-over-count t p k laid
 
@@ -59,26 +60,26 @@ module _ (p : Profile) (k : ℕ) where
         )
 
     -- the numbers taken are those of the bands that hold the key
-    pub taken-are-held : (n : ℕ) → In n (taken p k) ↔ Some (λ b. (holds b k ≡ true) × (b .number ≡ n)) (p .bands)
-    taken-are-held n = Iff·trans (same-members n) (in-numbers (λ b. itself (holds b k)) n (p .bands))
+    pub taken-are-those-holding : (n : ℕ) → In n (taken p k) ↔ Some (λ b. (holds b k ≡ true) × (b .number ≡ n)) (p .bands)
+    taken-are-those-holding n = Iff·trans (same-members n) (in-numbers (λ b. itself (holds b k)) n (p .bands))
 
     -- a stab's flags are those of the bands that hold the key ..
-    pub flags-are-the-held : stabOf p k .flags ≡ flagsOf (numbersHolding (p .bands) k)
+    pub flags-of-those-holding : stabOf p k .flags ≡ flagsOf (numbersHolding (p .bands) k)
     unfolding stabOf
-    flags-are-the-held =
+    flags-of-those-holding =
         flags-by-members (taken p k) (numbersHolding (p .bands) k)
         (λ n l. same-means (member-means n (taken p k)) (member-means n (numbersHolding (p .bands) k)) (same-members n .0) (same-members n .1))
 
     -- .. each is set exactly where such a band has the number ..
-    pub flag-where-held : (n : ℕ) → n < 1024
+    pub flag-where-one-holds : (n : ℕ) → n < 1024
         → (flagAt (stabOf p k .flags) n ≡ 1) ↔ Some (λ b. (holds b k ≡ true) × (b .number ≡ n)) (p .bands)
     unfolding stabOf
-    flag-where-held n l = Iff·trans (flag-set-where-in (taken p k) n l) (taken-are-held n)
+    flag-where-one-holds n l = Iff·trans (flag-set-where-in (taken p k) n l) (taken-are-those-holding n)
 
     -- .. and marks met are how many they are
-    pub met-is-held : stabOf p k .met ≡ countIf (λ b. holds b k) (p .bands)
+    pub met-is-those-holding : stabOf p k .met ≡ countIf (λ b. holds b k) (p .bands)
     unfolding stabOf
-    met-is-held = as-many
+    met-is-those-holding = as-many
 
   module _ (standing : Standing p) where
     -- of the marks taken one has the number, if a band with that number holds the key, else none
@@ -120,10 +121,10 @@ module _ (p : Profile) (k : ℕ) where
       where
         below : Each (λ n. n < 1024) (taken p k)
         below n i =
-            let s = taken-are-held (standing-laid p standing) n .0 i in
+            let s = taken-are-those-holding (standing-laid p standing) n .0 i in
             let right = standing .bands-right (s .0) (s .1) in
             omega arith
 
     -- .. and both are how many bands hold the key
-    pub count-is-held : stabOf p k .count ≡ countIf (λ b. holds b k) (p .bands)
-    count-is-held = sym met-is-count ∙ met-is-held (standing-laid p standing)
+    pub count-is-those-holding : stabOf p k .count ≡ countIf (λ b. holds b k) (p .bands)
+    count-is-those-holding = sym met-is-count ∙ met-is-those-holding (standing-laid p standing)

@@ -18,7 +18,7 @@ use Rattle.rules.specs.Computes.{computes}
 use Rattle.rules.specs.BenchProfile.{p9}
 use Rattle.rules.proofs.Means.{never, lt-fails}
 use Rattle.rules.proofs.Lists.{member-means, in-map}
-use Rattle.rules.proofs.Changes.{removed-nodes-fewer}
+use Rattle.rules.proofs.Changes.{removed-nodes-no-more}
 use Rattle.rules.proofs.BoxSaysNo.{lowest-given, remove-ordered}
 
 module _ (room : Room) (p : Profile) (number : ℕ) where
@@ -32,7 +32,7 @@ module _ (room : Room) (p : Profile) (number : ℕ) where
 
   -- .. nor need it be: where nodes fit before the remove, 11 does not apply after it
   pub eleven-not-after-remove : length (p .nodes) ≤ room .nodes → nodesExceed room (removed p number) .applies ≡ false
-  eleven-not-after-remove h = lt-fails (room .nodes) (length (removed p number .nodes)) .test (omega (arith, removed-nodes-fewer p number))
+  eleven-not-after-remove h = lt-fails (room .nodes) (length (removed p number .nodes)) .test (omega (arith, removed-nodes-no-more p number))
 
 -- room for 5 nodes and 8 marks, which P9 just fits
 abbrev pub justP9 : Room

@@ -71,7 +71,7 @@ module _ (b : Band) {ns : List Node} {c : ℕ} {n : Node} {rest : List Node} (f 
           reach false q =
               still-found ns b (n .key) i (λ y h. let p : y ≡ z = cc (e y .1 h .1) in omega (arith, leb-false z (b .high) q)) o g
 
-  -- where nothing is marked at the node, it has no slots
+  -- where nothing is marked at the node, none of its slots is
   bare-slots : (j : ℕ) → Bare ns b (n .key) → markedSlotsFrom ns b j (n ∷ rest) ≡ markedSlotsFrom ns b (suc j) rest
   bare-slots j h = rw (h .node-bare, no-links ns b j n rest 0 lanes (λ k u v. link-bare b f a k (h .edges-bare k v)))
 
@@ -172,7 +172,7 @@ module _ (ns : List Node) (b : Band) (a : Asc 0 ns) (levels : Each (λ n. Level 
   pub walk-visits : (j t : ℕ) → t ≤ lanes → In (slotNumber j t) (walk ns b) ↔ SlotMarked ns b (drop j ns) t
   walk-visits j t l = rw walk-slots (slot-rule ns b j t l)
 
-  -- .. and no slot of any other kind ..
+  -- .. and every number visited is that of a slot of some node ..
   pub walk-only : (s : ℕ) → In s (walk ns b) → (j : ℕ) × (t : ℕ) × (j < length ns) × (t ≤ lanes) × (s ≡ slotNumber j t)
   walk-only s h = every-slot ns b s (subst (In s) walk-slots h)
 

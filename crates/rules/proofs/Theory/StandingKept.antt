@@ -18,8 +18,8 @@ use Rattle.rules.specs.Computes.{computes}
 use Rattle.rules.proofs.Means.{itself}
 use Rattle.rules.proofs.Lists.{In, Each}
 use Rattle.rules.proofs.NodesLanesEdges.{Level, NodeAt, EndOf}
-use Rattle.rules.proofs.Changes.{at-with-ends, in-with-ends, with-ends-ascend, in-inserted-bands, inserted-bands-ascend, in-bands-left, in-nodes-left, bands-left-ascend, nodes-left-ascend, removed-nodes-fewer}
-use Rattle.rules.proofs.BoxSaysNo.{room-in-range-means, BandRight, InsertTaken, empty-taken, accepted-changes, empty-keeps, insert-keeps, remove-keeps}
+use Rattle.rules.proofs.Changes.{at-with-ends, in-with-ends, with-ends-ascend, in-inserted-bands, inserted-bands-ascend, in-bands-left, in-nodes-left, bands-left-ascend, nodes-left-ascend, removed-nodes-no-more}
+use Rattle.rules.proofs.BoxSaysNo.{room-in-range-means, BandRight, InsertAccepted, empty-accepted, accepted-changes, empty-keeps, insert-keeps, remove-keeps}
 use Rattle.rules.proofs.SoundMemory.{Standing, standing-means, Fitting, SoundIn, sound-in-means}
 
 -- ---- the profile after a call that is accepted
@@ -96,7 +96,7 @@ empty-sound room e =
     (empty-stands, record { node-room = r .0; mark-room = r .1; nodes-fit = omega arith; marks-fit = omega arith })
 
 module _ (sizesRight : Bool) (p : Profile) where
-  -- making an empty profile leaves a standing one ..
+  -- making an empty profile, accepted or refused, leaves a standing profile standing ..
   pub empty-keeps-standing : Standing p → Standing (emptyOutcome sizesRight p .profile)
   empty-keeps-standing s = empty-keeps Standing sizesRight p s (λ t. empty-stands)
 
@@ -105,7 +105,7 @@ module _ (sizesRight : Bool) (p : Profile) where
   empty-keeps-standing-test e = standing-means _ .test (empty-keeps-standing (standing-means p .fact e))
 
   module _ (room : Room) where
-    -- .. a sound one where one was, also when it is refused ..
+    -- .. and a sound one sound ..
     pub empty-keeps-sound : soundIn room p ≡ true → soundIn room (emptyOutcome sizesRight p .profile) ≡ true
     empty-keeps-sound e =
         let f = sound-in-means room p .fact e .1 in
@@ -116,12 +116,12 @@ module _ (sizesRight : Bool) (p : Profile) where
     pub empty-makes-sound : sizesRight ≡ true → roomInRange room ≡ true → soundIn room (emptyOutcome sizesRight p .profile) ≡ true
     unfolding emptyOutcome
     empty-makes-sound t r =
-        rw (accepted-changes (emptyRefusal sizesRight) p emptyProfile (empty-taken sizesRight .1 t)) (empty-sound room r)
+        rw (accepted-changes (emptyRefusal sizesRight) p emptyProfile (empty-accepted sizesRight .1 t)) (empty-sound room r)
 
 module _ (sizesRight sound : Bool) (room : Room) (p : Profile) where
   module _ (b : Band) (lo hi : ℕ) where
     -- a standing profile after an insert that nothing refuses
-    taken-stands : Standing p → InsertTaken sizesRight sound room p b lo hi → Standing (inserted p b lo hi)
+    taken-stands : Standing p → InsertAccepted sizesRight sound room p b lo hi → Standing (inserted p b lo hi)
     taken-stands s t = inserted-stands p b lo hi s (t .band-right) (t .levels-right .0) (t .levels-right .1) (t .number-free)
 
     -- an insert leaves a standing profile standing ..
@@ -153,7 +153,7 @@ module _ (sizesRight sound : Bool) (room : Room) (p : Profile) where
     pub remove-keeps-sound : soundIn room p ≡ true → soundIn room (removeOutcome sizesRight sound room p number scope .profile) ≡ true
     remove-keeps-sound e =
         let h = sound-in-means room p .fact e in
-        let nodes-fit : length (removed p number .nodes) ≤ room .nodes = omega (arith, removed-nodes-fewer p number) in
+        let nodes-fit : length (removed p number .nodes) ≤ room .nodes = omega (arith, removed-nodes-no-more p number) in
         sound-in-means room _ .test
         (remove-keeps (SoundIn room) sizesRight sound room p number scope h
         (λ t. (removed-stands p number (h .0), fitting-too room p (removed p number) (h .1) nodes-fit (t .marks-fit))))

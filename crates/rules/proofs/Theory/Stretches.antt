@@ -1,4 +1,4 @@
--- "What one call can reach", the stretches, for any two lists of nodes: whatever nodes are made, dropped, or made again with another level,
+-- "What one call can reach", the stretches, for any two ascending lists of nodes: whatever is made, dropped, or made again with another level,
 -- an edge that lies in no stretch is an edge of its lane both before and after, so marks outside the stretches are the same, both ways.
 -- Assumes nothing.
 use Prim.Native.Nat.{ℕ, _≤_, _<_}
@@ -59,11 +59,11 @@ module _ (both touched : List Node) where
   abbrev pub ClearAt : ℕ → Type 0
   ClearAt k = Some (λ n. StrictlyInside k (stretchOf both n)) touched → ⊥
 
-  -- an edge is clear that contains a clear one ..
+  -- an edge that contains a clear one is clear ..
   clear-around : (e f : Edge) → Contains f e → Clear e → Clear f
   clear-around e f c clear x = clear (x .0, x .1, omega (arith, x .2))
 
-  -- .. or passes over a clear key
+  -- .. and so is one that passes over a clear key
   clear-over : (k : ℕ) (f : Edge) → PassesOver f k → ClearAt k → Clear f
   clear-over k f c clear x = clear (x .0, x .1, omega (arith, x .2))
 
@@ -173,13 +173,14 @@ module _ (before after : List Node) (a : Asc 0 before) (c : Asc 0 after)
             (edge-mark-stays _ _ after before (s .1) (s .0) b i e clear),
       )
 
-  -- .. and at a key strictly inside none, where the band's ends stand before and after, it is marked on a node before exactly when after
-  pub same-marks-on-node : b .high ≤ highestKey
-      → NodeAt (b .low) before × NodeAt (b .high) before → NodeAt (b .low) after × NodeAt (b .high) after
+  -- .. and where the band's ends stand before and after, it is marked on a node that is strictly inside none before exactly when it is after
+  pub same-marks-on-node : NodeAt (b .low) before × NodeAt (b .high) before → NodeAt (b .low) after × NodeAt (b .high) after
       → (k : ℕ) → ClearAt (presentBoth before after) (madeOrDropped before after) k
       → (NodeAt k before × (nodeMarked before b k ≡ true)) ↔ (NodeAt k after × (nodeMarked after b k ≡ true))
-  same-marks-on-node top ends-before ends-after k clear =
-      let s = sides before after a c l m in (
+  same-marks-on-node ends-before ends-after k clear =
+      let s = sides before after a c l m in
+      let end = ends-after .1 in
+      let top : b .high ≤ highestKey = omega (arith, m (end .0) (end .1), end .2) in (
         λ h. (
           held-node-stays _ _ before after (s .0) b top ends-after k clear (node-mark-rule before b k .fact (h .1) .0) (h .0),
           node-mark-stays _ _ before after (s .0) (s .1) b k clear (h .1),
