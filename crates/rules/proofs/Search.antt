@@ -41,6 +41,6 @@ abbrev pub edgesOver : ℕ → ℕ → List Node → List Edge
 edgesOver k i ns = keep (λ e. passesOver e k) (edgesIn i ns)
 
 -- what is marked on the edges over k in the lowest m lanes, from the highest of them down, and then on a node at k
-abbrev pub takenOver : Profile → ℕ → ℕ → List ℕ
-takenOver p k zero = nodeTakes p k
-takenOver p k (suc i) = markedAlong p i (edgesOver k i (p .nodes)) ++ takenOver p k i
+abbrev pub markedOver : Profile → ℕ → ℕ → List ℕ
+markedOver p k zero = nodeTakes p k
+markedOver p k (suc i) = markedAlong p i (edgesOver k i (p .nodes)) ++ markedOver p k i

@@ -21,7 +21,7 @@ use Rattle.rules.proofs.Changes.{in-inserted-bands, in-removed-bands}
 use Rattle.rules.proofs.BoxSaysNo.{BandRight, RemoveAccepted, insert-keeps, remove-keeps}
 use Rattle.rules.proofs.SoundMemory.{Standing}
 use Rattle.rules.proofs.Reach.{answers-alike-means}
-use Rattle.rules.proofs.Theory.TakenOver.{standing-laid}
+use Rattle.rules.proofs.Theory.MarkedOver.{standing-nodes-right}
 use Rattle.rules.proofs.Theory.MetOnce.{taken-are-those-holding, met-is-count}
 use Rattle.rules.proofs.Theory.StandingKept.{insert-keeps-standing, remove-keeps-standing}
 
@@ -52,8 +52,8 @@ module _ (m k : ℕ) (l : m < machines) (other : ownKey m k ≡ false) where
     -- .. and what a search takes there in one it takes in the other
     same-taken : (n : ℕ) → member n (taken p k) ≡ member n (taken q k)
     same-taken n =
-        let in-p = taken-are-those-holding p k (standing-laid p before) n in
-        let in-q = taken-are-those-holding q k (standing-laid q after) n in
+        let in-p = taken-are-those-holding p k (standing-nodes-right p before) n in
+        let in-q = taken-are-those-holding q k (standing-nodes-right q after) n in
         same-means (member-means n (taken p k)) (member-means n (taken q k))
         (λ i. in-q .1 (held-too p q (before .bands-right) (λ b o. only b o .0) n (in-p .0 i)))
         (λ i. in-p .1 (held-too q p (after .bands-right) (λ b o. only b o .1) n (in-q .0 i)))
@@ -70,8 +70,8 @@ module _ (m k : ℕ) (l : m < machines) (other : ownKey m k ≡ false) where
     same-met = met-is-count p k before ∙ same-count ∙ sym (met-is-count q k after)
 
 -- two standing profiles whose bands differ only in those of scope m answer alike at every key of every other machine
-pub alone : (m : ℕ) (p q : Profile) → Standing p → Standing q → DifferOnlyIn m p q → OthersAlike m p q
-alone m p q before after only l k on-line other =
+pub others-alike : (m : ℕ) (p q : Profile) → Standing p → Standing q → DifferOnlyIn m p q → OthersAlike m p q
+others-alike m p q before after only l k on-line other =
     answers-alike-means p q k .test
     (same-flags m k l other p q before after only, same-count m k l other p q before after only, same-met m k l other p q before after only)
 
@@ -79,7 +79,7 @@ module _ (sizesRight sound : Bool) (room : Room) (p : Profile) (s : Standing p) 
   -- an insert of scope below 64, accepted or refused, leaves flags, count and marks met the same at every key of every other machine
   pub insert-alone : (b : Band) (lo hi : ℕ) → OthersAlike (b .scope) p (insertOutcome sizesRight sound room p b lo hi .profile)
   insert-alone b lo hi =
-      alone (b .scope) p _ s (insert-keeps-standing sizesRight sound room p b lo hi s)
+      others-alike (b .scope) p _ s (insert-keeps-standing sizesRight sound room p b lo hi s)
       (insert-keeps (DifferOnlyIn (b .scope) p) sizesRight sound room p b lo hi (λ c o. (λ i. i, λ i. i)) (λ t. others))
     where
       others : DifferOnlyIn (b .scope) p (inserted p b lo hi)
@@ -90,7 +90,7 @@ module _ (sizesRight sound : Bool) (room : Room) (p : Profile) (s : Standing p) 
   -- and so does a remove
   pub remove-alone : (number scope : ℕ) → OthersAlike scope p (removeOutcome sizesRight sound room p number scope .profile)
   remove-alone number scope =
-      alone scope p _ s (remove-keeps-standing sizesRight sound room p number scope s)
+      others-alike scope p _ s (remove-keeps-standing sizesRight sound room p number scope s)
       (remove-keeps (DifferOnlyIn scope p) sizesRight sound room p number scope (λ c o. (λ i. i, λ i. i)) others)
     where
       others : RemoveAccepted sizesRight sound room p number scope → DifferOnlyIn scope p (removed p number)

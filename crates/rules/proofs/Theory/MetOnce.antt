@@ -21,9 +21,9 @@ use Rattle.rules.proofs.Lists.{In, Some, Each, Distinct, any-means, all
 use Rattle.rules.proofs.Profile.{NumbersAsc}
 use Rattle.rules.proofs.Marks.{in-numbers, numbersHolding, length-of-numbers}
 use Rattle.rules.proofs.Flags.{flag-set-where-in, count-without-repeats, flags-by-members}
-use Rattle.rules.proofs.Theory.SearchReaches.{takes-over}
+use Rattle.rules.proofs.Theory.SearchReaches.{takes-marked-over}
 use Rattle.rules.proofs.Sums.{at-most-one, count-all, count-one, in-counted, distinct-by-counts}
-use Rattle.rules.proofs.Theory.TakenOver.{Laid, standing-laid, asked, count-numbers, taken-over-count}
+use Rattle.rules.proofs.Theory.MarkedOver.{NodesRight, standing-nodes-right, asked, count-numbers, marked-over-count}
 use Rattle.rules.proofs.SoundMemory.{Standing}
 
 -- of ascending bands those with one number are one or none
@@ -39,14 +39,14 @@ one-numbered f n bs a =
 -- ---- what the search takes
 
 module _ (p : Profile) (k : ℕ) where
-  module _ (laid : Laid p) where
+  module _ (right : NodesRight p) where
     -- for any test, as many of the numbers taken pass as of the numbers of the bands that hold the key
     pub met-once : (t : ℕ → Bool) → countIf t (taken p k) ≡ countIf t (numbersHolding (p .bands) k)
-    met-once t = ap (countIf t) (takes-over p k (laid .keys-ascend)) ∙ taken-over-count t p k laid
+    met-once t = ap (countIf t) (takes-marked-over p k (right .keys-ascend)) ∙ marked-over-count t p k right
 
     -- it takes as many marks as there are bands that hold the key
-    pub as-many : length (taken p k) ≡ countIf (λ b. holds b k) (p .bands)
-    as-many =
+    pub taken-as-many : length (taken p k) ≡ countIf (λ b. holds b k) (p .bands)
+    taken-as-many =
         sym (count-all (taken p k))
         ∙ met-once (λ n. true)
         ∙ count-all (numbersHolding (p .bands) k)
@@ -79,13 +79,13 @@ module _ (p : Profile) (k : ℕ) where
     -- .. and marks met are how many they are
     pub met-is-those-holding : stabOf p k .met ≡ countIf (λ b. holds b k) (p .bands)
     unfolding stabOf
-    met-is-those-holding = as-many
+    met-is-those-holding = taken-as-many
 
   module _ (standing : Standing p) where
     -- of the marks taken one has the number, if a band with that number holds the key, else none
     met-with-number : (n : ℕ) → countIf (λ m. eqb m n) (taken p k) ≡ oneIf (any (λ b. holds b k) (asked (λ m. eqb m n) (p .bands)))
     met-with-number n =
-        met-once (standing-laid p standing) (λ m. eqb m n)
+        met-once (standing-nodes-right p standing) (λ m. eqb m n)
         ∙ count-numbers (λ m. eqb m n) (λ b. holds b k) (p .bands)
         ∙ one-numbered (λ b. holds b k) n (p .bands) (standing .numbers-ascend)
 
@@ -121,10 +121,10 @@ module _ (p : Profile) (k : ℕ) where
       where
         below : Each (λ n. n < 1024) (taken p k)
         below n i =
-            let s = taken-are-those-holding (standing-laid p standing) n .0 i in
+            let s = taken-are-those-holding (standing-nodes-right p standing) n .0 i in
             let right = standing .bands-right (s .0) (s .1) in
             omega arith
 
     -- .. and both are how many bands hold the key
     pub count-is-those-holding : stabOf p k .count ≡ countIf (λ b. holds b k) (p .bands)
-    count-is-those-holding = sym met-is-count ∙ met-is-those-holding (standing-laid p standing)
+    count-is-those-holding = sym met-is-count ∙ met-is-those-holding (standing-nodes-right p standing)

@@ -88,8 +88,8 @@ module _ (ns : List Node) (b : Band) (k : ℕ) (a : Asc 0 ns) where
   times-in-lanes = lanes-same 0 lanes (λ i l u. times-in-lane i) ∙ highest-once (passedOverInLane ns b k) lanes 0 lanes refl
 
   -- a band with an edge over k inside it holds k
-  pub over-held : inSomeLane (passedOverInLane ns b k) ≡ true → holds b k ≡ true
-  over-held h =
+  pub over-then-holds : inSomeLane (passedOverInLane ns b k) ≡ true → holds b k ≡ true
+  over-then-holds h =
       let s = lane-means (passed-over-in-lane-means ns b k) 0 lanes .fact h in
       let inside = s .3 .2 in
       holds-means b k .test (inl (omega arith), inl (omega arith))
@@ -100,8 +100,8 @@ module _ (ns : List Node) (b : Band) (k : ℕ) (a : Asc 0 ns) where
     in-lane-zero x s = in-lane 0 x ns .1 (s .0, s .1, (levels (s .0) (s .1), s .2))
 
     -- a band that holds k, where no node stands, has an edge over k inside it, in lane 0 at least
-    pub held-over : standsAt k ns ≡ false → holds b k ≡ true → inSomeLane (passedOverInLane ns b k) ≡ true
-    held-over none h =
+    pub holds-then-over : standsAt k ns ≡ false → holds b k ≡ true → inSomeLane (passedOverInLane ns b k) ≡ true
+    holds-then-over none h =
         lane-means (passed-over-in-lane-means ns b k) 0 lanes .test (0, omega arith, omega arith, (s .0, s .1, (s .2 .0, (s .2 .1, s .2 .2))))
       where
         off : NodeAt k ns → ⊥
@@ -124,4 +124,4 @@ module _ (ns : List Node) (b : Band) (k : ℕ) (a : Asc 0 ns) where
     -- the band is marked over k, or on a node at k, once if it holds k and never otherwise
     pub over-once : timesOver ns b k ≡ oneIf (holds b k)
     unfolding nodeMarked
-    over-once = rw times-in-lanes (one-in-all _ _ _ over-held held-over)
+    over-once = rw times-in-lanes (one-in-all _ _ _ over-then-holds holds-then-over)

@@ -59,8 +59,8 @@ inserted-stands p b lo hi s right low-right high-right free =
     }
 
 -- a standing profile without the bands that pass a test, whatever the test, is standing
-pub left-stands : (f : Band → Bool) (p : Profile) → Standing p → Standing (withoutWhere f p)
-left-stands f p s =
+pub without-stands : (f : Band → Bool) (p : Profile) → Standing p → Standing (withoutWhere f p)
+without-stands f p s =
     record {
       numbers-ascend = bands-left-ascend f p 0 (s .numbers-ascend);
       bands-right = λ b i. s .bands-right b (was b i);
@@ -79,7 +79,7 @@ left-stands f p s =
 -- a standing profile without the band of a number is standing
 pub removed-stands : (p : Profile) (number : ℕ) → Standing p → Standing (removed p number)
 unfolding removed
-removed-stands p number = left-stands (hasNumber number) p
+removed-stands p number = without-stands (hasNumber number) p
 
 -- ---- every call, accepted or refused
 

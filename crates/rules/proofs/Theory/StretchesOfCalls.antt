@@ -79,8 +79,8 @@ module _ (p q : Profile) (before : Standing p) (after : Standing q) where
       only-one x y s k l c m e = subst (λ d. In d (y .bands)) (sym (ascends-once (λ d. d .number) 0 (x .bands) (s .numbers-ascend) c b m k e)) l
 
   -- where each band of another number is live in both or in neither, only stretches are reached
-  pub stretches : (number : ℕ) → OthersSame number p q → reachesOnlyStretches number p q ≡ true
-  stretches number alike =
+  pub only-stretches-reached : (number : ℕ) → OthersSame number p q → reachesOnlyStretches number p q ≡ true
+  only-stretches-reached number alike =
       reaches-only-stretches-means number p q .test (
         λ b i. ⊎-map (λ e. e) (λ off. same-band-keeps-marks b i (alike b off .0 i) .0) (that-or-other b),
         λ b j. ⊎-map (λ e. e) (λ off. same-band-keeps-marks b (alike b off .1 j) j .1) (that-or-other b),
@@ -95,7 +95,7 @@ module _ (sizesRight sound : Bool) (room : Room) (p : Profile) (s : Standing p) 
   pub insert-reaches-only-stretches : (b : Band) (lo hi : ℕ)
       → reachesOnlyStretches (b .number) p (insertOutcome sizesRight sound room p b lo hi .profile) ≡ true
   insert-reaches-only-stretches b lo hi =
-      stretches p _ s (insert-keeps-standing sizesRight sound room p b lo hi s) (b .number)
+      only-stretches-reached p _ s (insert-keeps-standing sizesRight sound room p b lo hi s) (b .number)
       (insert-keeps (OthersSame (b .number) p) sizesRight sound room p b lo hi
       (λ c off. Iff·rfl)
       (λ t c off. Iff·symm (insert-keeps-others p b lo hi c off)))
@@ -104,7 +104,7 @@ module _ (sizesRight sound : Bool) (room : Room) (p : Profile) (s : Standing p) 
   pub remove-reaches-only-stretches : (number scope : ℕ)
       → reachesOnlyStretches number p (removeOutcome sizesRight sound room p number scope .profile) ≡ true
   remove-reaches-only-stretches number scope =
-      stretches p _ s (remove-keeps-standing sizesRight sound room p number scope s) number
+      only-stretches-reached p _ s (remove-keeps-standing sizesRight sound room p number scope s) number
       (remove-keeps (OthersSame number p) sizesRight sound room p number scope
       (λ c off. Iff·rfl)
       (λ t c off. Iff·symm (remove-keeps-others p number c off)))

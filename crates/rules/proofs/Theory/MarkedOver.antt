@@ -16,20 +16,20 @@ use Rattle.rules.specs.Search.{nodeTakes}
 use Rattle.rules.proofs.Lists.{Each, in-keep}
 use Rattle.rules.proofs.NodesLanesEdges.{Asc, Level, NodeAt}
 use Rattle.rules.proofs.Marks.{numbersHolding}
-use Rattle.rules.proofs.Search.{markedAlong, edgesOver, takenOver}
+use Rattle.rules.proofs.Search.{markedAlong, edgesOver, markedOver}
 use Rattle.rules.proofs.Sums.{count-append, count-sum, count-none, sum-same, sum-plus, count-by-rows-or-columns}
 use Rattle.rules.proofs.Theory.OverOnce.{timesOverIn, timesOnNode, timesOver, over-once}
 use Rattle.rules.proofs.SoundMemory.{Standing}
 
 -- nodes in key order with right levels, one at each end of each band
-pub record Laid (p : Profile) : Type 0 where
+pub record NodesRight (p : Profile) : Type 0 where
   pub keys-ascend : Asc 0 (p .nodes)
   pub levels-right : Each (λ n. Level (n .level)) (p .nodes)
   pub ends-stand : Each (λ b. NodeAt (b .low) (p .nodes) × NodeAt (b .high) (p .nodes)) (p .bands)
 
 -- a standing profile is so
-pub standing-laid : (p : Profile) → Standing p → Laid p
-standing-laid p s = record { keys-ascend = s .keys-ascend; levels-right = s .levels-right; ends-stand = s .ends-stand }
+pub standing-nodes-right : (p : Profile) → Standing p → NodesRight p
+standing-nodes-right p s = record { keys-ascend = s .keys-ascend; levels-right = s .levels-right; ends-stand = s .ends-stand }
 
 -- ---- the count, lane by lane and band by band
 
@@ -95,11 +95,11 @@ module _ (t : ℕ → Bool) (p : Profile) (k : ℕ) where
 
   -- the two together, of the lowest m lanes
   count-in-lanes : (m : ℕ)
-      → countIf t (takenOver p k m)
+      → countIf t (markedOver p k m)
       ≡ sumOf (λ b. sumLanes (timesOverIn (p .nodes) b k) 0 m + timesOnNode (p .nodes) b k) (asked t (p .bands))
   count-in-lanes zero = count-on-node ∙ sum-same (asked t (p .bands)) (λ b i. omega arith)
   count-in-lanes (suc i) =
-      count-append t (markedAlong p i (edgesOver k i (p .nodes))) (takenOver p k i)
+      count-append t (markedAlong p i (edgesOver k i (p .nodes))) (markedOver p k i)
       ∙ ap₂ (λ x y. x + y) (count-in-lane i) (count-in-lanes i)
       ∙ sym (sum-plus (λ b. timesOverIn (p .nodes) b k i) lower (asked t (p .bands)))
       ∙ sum-same (asked t (p .bands)) (λ b j. omega (arith, last-apart (timesOverIn (p .nodes) b k) 0 i i (omega arith)))
@@ -108,8 +108,8 @@ module _ (t : ℕ → Bool) (p : Profile) (k : ℕ) where
       lower b = sumLanes (timesOverIn (p .nodes) b k) 0 i + timesOnNode (p .nodes) b k
 
   -- the numbers over k are counted as those of the bands that hold k
-  pub taken-over-count : Laid p → countIf t (takenOver p k lanes) ≡ countIf t (numbersHolding (p .bands) k)
-  taken-over-count laid =
+  pub marked-over-count : NodesRight p → countIf t (markedOver p k lanes) ≡ countIf t (numbersHolding (p .bands) k)
+  marked-over-count right =
       count-in-lanes lanes
       ∙ sum-same (asked t (p .bands)) once
       ∙ sym (count-sum (λ b. holds b k) (asked t (p .bands)))
@@ -117,5 +117,5 @@ module _ (t : ℕ → Bool) (p : Profile) (k : ℕ) where
     where
       once : Each (λ b. timesOver (p .nodes) b k ≡ oneIf (holds b k)) (asked t (p .bands))
       once b i =
-          let ends = laid .ends-stand b (in-keep (λ c. t (c .number)) b (p .bands) .0 i .0) in
-          over-once (p .nodes) b k (laid .keys-ascend) (λ n j. laid .levels-right n j .0) (ends .0) (ends .1)
+          let ends = right .ends-stand b (in-keep (λ c. t (c .number)) b (p .bands) .0 i .0) in
+          over-once (p .nodes) b k (right .keys-ascend) (λ n j. right .levels-right n j .0) (ends .0) (ends .1)
