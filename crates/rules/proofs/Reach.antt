@@ -1,5 +1,6 @@
 -- "What one call can reach": which nodes are made, dropped or present throughout, how far a stretch runs, what lies in one, what bears a
 -- mark and when answers are alike, to and from membership and arithmetic; so that the Bool rule says what the paper says with its quantifiers.
+-- These laws and the rows of the table are what keep the rule as strong as the paper's: Theory shows that calls meet it, and so would a weaker one.
 -- Assumes nothing.
 use Prim.Native.Nat.{ℕ, max, min, _≤_, _<_}
 use mathlib.Core.Path.{_≡_, refl, sym, _∙_, ap, subst}
@@ -10,15 +11,15 @@ use native.Mathlib.Omega.{arith}
 use lib.Dec.{eqb}
 use Rattle.rules.specs.Connectives.{_and_}
 use Rattle.rules.specs.Lists.{keep}
-use Rattle.rules.specs.HallLine.{highestKey, machines, partsInRange, keyOf, ownKey}
+use Rattle.rules.specs.HallLine.{highestKey, machines, partsInRange, keyOf}
 use Rattle.rules.specs.NodesLanesEdges.{Node, nodeOf, Edge, edgeOf, edgesIn, lanes}
 use Rattle.rules.specs.Profile.{Profile}
 use Rattle.rules.specs.Marks.{markedOnEdge, markedOnNode}
 use Rattle.rules.specs.Search.{stabOf}
 use Rattle.rules.specs.Reach.{present, presentBoth, madeOrDropped, Stretch, nearestBefore, nearestAfter, stretchOf, liesIn, strictlyInside, edgeReached, keyReached, edgeBears, nodeBears, answersAlike, OthersAlike, losesInLane, losesOnNode, keepsMarks, reachesOnlyStretches}
-use Rattle.rules.proofs.Means.{Means, Fails, passes-or-fails, reworded, denied, not-means, and-means, and3-means, or-means, then-fails, implies-fails, lt-means, le-means, eq-means, at-most-or-above}
+use Rattle.rules.proofs.Means.{Means, Fails, reworded, denied, not-means, and-means, and3-means, or-means, then-fails, implies-fails, lt-means, le-means, eq-means, at-most-or-above}
 use Rattle.rules.proofs.Lists.{In, Some, Each, each-cons, any-means, any-fails, all-means, find-means, member-means, same-numbers-means, in-kept, some-or-none, in-append, lane-fails}
-use Rattle.rules.proofs.HallLine.{key-on-line, key-is-its-machines, one-machine}
+use Rattle.rules.proofs.HallLine.{parts-in-range-means, key-is-its-machines}
 use Rattle.rules.proofs.NodesLanesEdges.{NodeAt, stands-at-means}
 use Rattle.rules.proofs.Profile.{has-number-means}
 
@@ -255,5 +256,4 @@ answers-alike-means p q k =
 pub others-at-every-key : (m : ℕ) (p q : Profile) → OthersAlike m p q → m < machines
     → (n s r : ℕ) → partsInRange n s r ≡ true → (n ≡ m → ⊥) → answersAlike p q (keyOf n s r) ≡ true
 others-at-every-key m p q alike l n s r h other =
-    alike l (keyOf n s r) (key-on-line n s r h)
-    (⊎-elim (λ own. absurd (other (one-machine n m (keyOf n s r) (key-is-its-machines n s r h) own))) (λ e. e) (passes-or-fails (ownKey m (keyOf n s r))))
+    alike l n (parts-in-range-means n s r .fact h .0) other (keyOf n s r) (key-is-its-machines n s r h)

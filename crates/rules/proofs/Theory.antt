@@ -1,7 +1,7 @@
 -- The theory of lanes and marks: what follows from the rules on any standing profile. It knows neither code nor memory. In the order in which
 -- the laws build on each other:
 --   EdgesNest         of two edges that overlap, that of the higher lane contains the other; a lane's edges lie end to end
---   EdgesOut          the edges of a lane are those that lead out of its nodes, one out of each
+--   EdgesOut          the edges of a lane are those that lead out of its nodes, each out of one node only
 --   LocalMarks        a mark by looking at one edge alone: that of the next lane, or the lowest over the node
 --   MarksInUse        marks in use, the bands' own counts together, are all edge and node marks
 --   OverOnce          one band: marked once over a key that it holds, and never over another

@@ -4,7 +4,7 @@ use Prim.Native.Nat.{ℕ}
 use mathlib.Core.Bool.{true, false}
 use mathlib.Core.List.{List, [], _∷_}
 use Rattle.rules.specs.HallLine.{Band, bandOf, house}
-use Rattle.rules.specs.NodesLanesEdges.{Node, withNode}
+use Rattle.rules.specs.NodesLanesEdges.{Node, nodeOf, withNode}
 use Rattle.rules.specs.Profile.{Profile, emptyProfile}
 use Rattle.rules.specs.Room.{Room, roomOf, roomInRange}
 use Rattle.rules.specs.BoxSaysNo.{Change, insertOutcome, removeOutcome}
@@ -110,3 +110,13 @@ around = lived wide emptyProfile (insert (closed 1 0 100 400) 1 1 ∷ [])
 -- the bench profile's nodes and one of level 2 made at 260
 abbrev pub bench260 : List Node
 bench260 = withNode 260 2 (bench .nodes)
+
+-- the bench profile's nodes with 300 of level 1
+abbrev pub bench300 : List Node
+bench300 = nodeOf 100 1 ∷ nodeOf 200 3 ∷ nodeOf 250 1 ∷ nodeOf 300 1 ∷ nodeOf 400 1 ∷ nodeOf 900 2 ∷ []
+
+-- a node between two taller ones, next to the first
+abbrev pub nextTo : Profile
+nextTo =
+    lived wide emptyProfile
+    (insert (closed 1 0 10 20) 2 1 ∷ insert (closed 2 0 11 11) 1 1 ∷ insert (closed 3 0 12 12) 2 2 ∷ [])

@@ -12,6 +12,7 @@ use Rattle.rules.specs.HallLine.{Band, bandOf, holds}
 use Rattle.rules.specs.NodesLanesEdges.{Node, Edge, edgesIn}
 use Rattle.rules.specs.Profile.{Profile}
 use Rattle.rules.specs.Marks.{marksOf, marksInUse, numbersWhere}
+use Rattle.rules.specs.Staircase.{markedSlots, walk}
 use Rattle.rules.specs.Flags.{flagsOf}
 use Rattle.rules.specs.Search.{stepsOf}
 use Rattle.rules.specs.Readouts.{BandRead}
@@ -37,6 +38,8 @@ pub data Row : Type 0 where
   marks : Profile → List ℕ → ℕ → Row
   -- the edges of a lane
   lane : Profile → ℕ → List Edge → Row
+  -- the band's marks stand at these slots, and the staircase visits them
+  walked : Profile → Band → List ℕ → Row
   -- a stab at a key gives these bands, each met once, and so many looks; the bands that hold the key are these, and the looks are 8 plus the search's steps
   stab : Profile → ℕ → List ℕ → ℕ → Row
   -- a stab at a key flags these numbers, counts and meets so many, and looks so often
@@ -158,6 +161,7 @@ rowRight (is room p bs ns m) = profileIs room p bs ns m
 rowRight (sound room p expected) = Bool·beq (soundIn room p) expected
 rowRight (marks p each all) = sameNumbers (map (marksOf (p .nodes)) (p .bands)) each and eqb (marksInUse p) all
 rowRight (lane p i es) = sameEdges (edgesIn i (p .nodes)) es
+rowRight (walked p b slots) = sameNumbers (markedSlots (p .nodes) b) slots and sameNumbers (walk (p .nodes) b) slots
 rowRight (stab p k ns l) =
     stabIs true p k 0 ns (length ns) (length ns) l
     and eqb (8 + stepsOf p k) l

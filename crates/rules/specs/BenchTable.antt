@@ -9,8 +9,8 @@ use Rattle.rules.specs.NodesLanesEdges.{Node, nodeOf, edgeOf}
 use Rattle.rules.specs.Profile.{profileOf, emptyProfile}
 use Rattle.rules.specs.Room.{roomOf}
 use Rattle.rules.specs.BoxSaysNo.{bandFault, stabRefusal}
-use Rattle.rules.specs.BenchProfile.{closed, openLow, openHigh, open′, insert, remove, callOf, wide, bench, p9, tall, twins, beside, lifted, middle, high, first, firstOpen, mixed, around, bench260}
-use Rattle.rules.specs.BenchRow.{Row, gives, says, held, is, sound, marks, lane, stab, meets, noStab, band, noBand, edge, noEdge, node, noNode, inUse, noInUse, emptied, notEmptied, accepted, refused, runs, near, alike, card}
+use Rattle.rules.specs.BenchProfile.{closed, openLow, openHigh, open′, insert, remove, callOf, wide, bench, p9, tall, twins, beside, lifted, middle, high, first, firstOpen, mixed, around, bench260, bench300, nextTo}
+use Rattle.rules.specs.BenchRow.{Row, gives, says, held, is, sound, marks, lane, walked, stab, meets, noStab, band, noBand, edge, noEdge, node, noNode, inUse, noInUse, emptied, notEmptied, accepted, refused, runs, near, alike, card}
 
 -- The bench profile itself, P1 to P10, and what each leaves.
 abbrev pub benchRows : List Row
@@ -21,6 +21,11 @@ benchRows =
     19
     ∷ marks bench (7 ∷ 2 ∷ 3 ∷ 1 ∷ 6 ∷ []) 19
     ∷ lane bench 1 (edgeOf 200 300 ∷ edgeOf 300 900 ∷ [])
+    ∷ walked bench (closed 1 0 100 400) (0 ∷ 1 ∷ 9 ∷ 11 ∷ 27 ∷ 28 ∷ 36 ∷ [])
+    ∷ walked bench (openLow 2 0 400 900) (37 ∷ 45 ∷ [])
+    ∷ walked bench (closed 3 0 200 300) (9 ∷ 11 ∷ 27 ∷ [])
+    ∷ walked bench (closed 4 0 250 250) (18 ∷ [])
+    ∷ walked bench (openHigh 5 0 100 900) (0 ∷ 1 ∷ 9 ∷ 11 ∷ 27 ∷ 29 ∷ [])
     -- P1
     ∷ stab bench 99 [] 8
     -- P2
@@ -307,6 +312,14 @@ reachRows =
     ∷ near 0 (profileOf (closed 1 0 200 200 ∷ []) (bench .nodes)) (profileOf [] bench260) false
     ∷ near 0 (profileOf (closed 1 0 250 250 ∷ []) (bench .nodes)) (profileOf [] bench260) true
     ∷ near 0 (profileOf (open′ 1 0 200 250 ∷ []) (bench .nodes)) (profileOf [] bench260) true
+    -- a node made again with another level reaches what its level reached
+    ∷ near 0 bench (profileOf (bench .bands) bench300) true
+    -- a node next to the key at which a stretch begins is strictly inside it: without node 12, node 11 bears band 1
+    ∷ accepted wide nextTo (remove 3 0) (closed 1 0 10 20 ∷ closed 2 0 11 11 ∷ []) (nodeOf 10 2 ∷ nodeOf 11 1 ∷ nodeOf 20 1 ∷ []) 6
+    -- looks at machine 1's keys may change by a call of machine 0
+    ∷ stab bench 40000 [] 11
+    ∷ stab (callOf wide bench (insert (closed 6 0 950 950) 8 8) .profile) 40000 [] 9
+    ∷ alike bench (callOf wide bench (insert (closed 6 0 950 950) 8 8) .profile) 40000 true
     -- answers at a key of machine 0
     ∷ alike bench (callOf wide bench (insert (closed 6 1 32768 65535) 8 8) .profile) 250 true
     ∷ alike bench (callOf wide bench (insert (closed 6 house 0 65535) 8 8) .profile) 250 false

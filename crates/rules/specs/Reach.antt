@@ -1,8 +1,8 @@
 -- "What one call can reach": answers at other machines' keys, and the stretches outside which other bands keep their marks.
 -- Assumes nothing.
-use Prim.Native.Nat.{ℕ, max, min, _≤_, _<_}
+use Prim.Native.Nat.{ℕ, max, min, _<_}
 use mathlib.Core.Path.{_≡_}
-use mathlib.Core.Bool.{Bool, true, false, not, cond}
+use mathlib.Core.Bool.{Bool, true, not, cond}
 use mathlib.Core.List.{List, [], _∷_, _++_}
 use lib.Dec.{leb, ltb, eqb}
 use Rattle.rules.specs.Connectives.{_and_, _or_}
@@ -22,7 +22,8 @@ answersAlike p q k =
 
 -- from p to q, where m is a machine, flags, count and marks met are the same at every key of every other machine
 abbrev pub OthersAlike : ℕ → Profile → Profile → Type 0
-OthersAlike m p q = m < machines → (k : ℕ) → k ≤ highestKey → ownKey m k ≡ false → answersAlike p q k ≡ true
+OthersAlike m p q =
+    m < machines → (n : ℕ) → n < machines → (n ≡ m → ⊥) → (k : ℕ) → ownKey n k ≡ true → answersAlike p q k ≡ true
 
 -- the node is present in the list: at its key, with its level
 unfoldable pub present : List Node → Node → Bool

@@ -16,7 +16,7 @@ use Rattle.rules.specs.Marks.{edgeMarked, nodeMarked}
 
 -- a node has nine slots: slot 0 is the node itself, slot 1 + i its edge in lane i
 abbrev pub slotsPerNode : ℕ
-slotsPerNode = 9
+slotsPerNode = suc lanes
 
 -- slots are numbered node by node: slot s of the node that has j nodes before it
 unfoldable pub slotNumber : ℕ → ℕ → ℕ

@@ -15,7 +15,7 @@ use Rattle.rules.specs.BoxSaysNo.{insertOutcome, removeOutcome}
 use Rattle.rules.specs.Reach.{OthersAlike}
 use Rattle.rules.proofs.Means.{never, passes-or-fails, same-means}
 use Rattle.rules.proofs.Lists.{In, Some, Each, member-means}
-use Rattle.rules.proofs.HallLine.{scope-keeps}
+use Rattle.rules.proofs.HallLine.{scope-keeps, one-machine}
 use Rattle.rules.proofs.Flags.{flags-by-members, count-by-members}
 use Rattle.rules.proofs.Changes.{in-inserted-bands, in-removed-bands}
 use Rattle.rules.proofs.BoxSaysNo.{BandRight, RemoveAccepted, insert-keeps, remove-keeps}
@@ -71,9 +71,12 @@ module _ (m k : ℕ) (l : m < machines) (other : ownKey m k ≡ false) where
 
 -- two standing profiles whose bands differ only in those of scope m answer alike at every key of every other machine
 pub others-alike : (m : ℕ) (p q : Profile) → Standing p → Standing q → DifferOnlyIn m p q → OthersAlike m p q
-others-alike m p q before after only l k on-line other =
+others-alike m p q before after only l n below off k own =
     answers-alike-means p q k .test
     (same-flags m k l other p q before after only, same-count m k l other p q before after only, same-met m k l other p q before after only)
+  where
+    other : ownKey m k ≡ false
+    other = ⊎-elim (λ o. absurd (off (one-machine n m k own o))) (λ e. e) (passes-or-fails (ownKey m k))
 
 module _ (sizesRight sound : Bool) (room : Room) (p : Profile) (s : Standing p) where
   -- an insert of scope below 64, accepted or refused, leaves flags, count and marks met the same at every key of every other machine

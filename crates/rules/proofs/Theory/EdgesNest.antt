@@ -96,3 +96,7 @@ module _ (c : ℕ) (ns : List Node) (a : Asc c ns) where
   -- an edge passes over no key of its lane
   pub none-over-own : (i k : ℕ) (e : Edge) → In e (edgesIn i ns) → PassesOver e k → In k (laneOf i ns) → ⊥
   none-over-own i k e m o h = ⊎-elim (λ l. absurd (omega (arith, o))) (λ l. absurd (omega (arith, o))) (joins i e m .none-between k h)
+
+  -- at most one edge of a lane passes over a key
+  pub one-over : (i k : ℕ) (e f : Edge) → In e (edgesIn i ns) → In f (edgesIn i ns) → PassesOver e k → PassesOver f k → e ≡ f
+  one-over i k e f p q u v = same-edge i e f p q (omega arith) (omega arith)

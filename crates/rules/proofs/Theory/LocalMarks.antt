@@ -14,7 +14,7 @@ use Rattle.rules.proofs.Means.{Means, reworded, at-most-or-above}
 use Rattle.rules.proofs.Lists.{In, Some, Each, some-or-none, ascends-once}
 use Rattle.rules.proofs.NodesLanesEdges.{Asc, Level, in-lane}
 use Rattle.rules.proofs.Marks.{Inside, Contains, contains-means, PassesOver, passes-over-means, edge-mark-rule, node-mark-rule}
-use Rattle.rules.proofs.Theory.EdgesNest.{lane-falls, in-own-lane, joins, nested, same-edge, edge-between, edge-over, none-over-own}
+use Rattle.rules.proofs.Theory.EdgesNest.{lane-falls, in-own-lane, joins, nested, same-edge, edge-between, edge-over, none-over-own, one-over}
 
 -- the edge of the list that is so is absent, or it does not lie inside the band
 abbrev pub AbsentOrOutside : (Edge → Type 0) → Band → List Edge → Type 0
@@ -95,7 +95,7 @@ module _ (ns : List Node) (a : Asc 0 ns) (levels : Each (λ n. Level (n .level))
     node-marked-locally n m =
         let local =
         absent-or-outside (λ e. passes-over-means e (n .key)) b (edgesIn (n .level) ns)
-        (λ f g p q o u. same-edge 0 ns a (n .level) f g p q (omega arith) (omega arith)) in
+        (one-over 0 ns a (n .level) (n .key)) in
         reworded (node-mark-rule ns b (n .key))
         (λ h. (h .0, local .0 (λ f p o i. h .1 (n .level) (lane-of-edge (n .level) f p) f p o i)))
         (λ h. (h .0, λ j l e p o i. let s = lowest-over n m j e p o in local .1 (h .1) (s .1 .0) (s .1 .1) (s .1 .2 .0) (omega (arith, s .1 .2 .1, i))))

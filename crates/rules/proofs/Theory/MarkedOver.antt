@@ -94,7 +94,7 @@ module _ (t : ℕ → Bool) (p : Profile) (k : ℕ) where
       ∙ count-sum (λ b. standsAt k (p .nodes) and nodeMarked (p .nodes) b k) (asked t (p .bands))
 
   -- the two together, of the lowest m lanes
-  count-in-lanes : (m : ℕ)
+  pub count-in-lanes : (m : ℕ)
       → countIf t (markedOver p k m)
       ≡ sumOf (λ b. sumLanes (timesOverIn (p .nodes) b k) 0 m + timesOnNode (p .nodes) b k) (asked t (p .bands))
   count-in-lanes zero = count-on-node ∙ sum-same (asked t (p .bands)) (λ b i. omega arith)

@@ -1,7 +1,7 @@
 -- "Marks in use are all edge and node marks": the bands' own counts of marks add up to what is marked on all edges and all nodes.
 -- Assumes nothing.
 use Prim.Native.Nat.{ℕ, _+_}
-use mathlib.Core.Path.{_≡_, sym, _∙_}
+use mathlib.Core.Path.{_≡_, refl, sym, _∙_}
 use mathlib.Core.Bool.{Bool}
 use mathlib.Core.List.{List}
 use lib.ListN.{length}
@@ -45,7 +45,12 @@ module _ (p : Profile) where
   unfolding markedOnNode
   node-marks-by-place = by-place (λ b n. nodeMarked (p .nodes) b (n .key)) (p .bands) (p .nodes)
 
-  -- marks in use, the sum of the bands' own counts, are all edge and node marks
+  -- marks in use are the sum of the bands' own counts ..
+  pub marks-in-use-by-band : marksInUse p ≡ sumOf (marksOf (p .nodes)) (p .bands)
+  unfolding marksInUse
+  marks-in-use-by-band = refl
+
+  -- .. which are all edge and node marks
   pub marks-in-use-by-place : marksInUse p ≡ marksByPlace p
   unfolding marksInUse marksOf
   marks-in-use-by-place = sum-plus _ _ (p .bands) ∙ rw (edge-marks-by-place 0 lanes, node-marks-by-place)

@@ -2,28 +2,31 @@
 -- once, and no other. So a stab's flags are those of the bands that hold the key, marks met are how many they are, and on a standing profile,
 -- where no two bands share a number, so is the count.
 -- Assumes nothing.
-use Prim.Native.Nat.{ℕ, _<_}
-use mathlib.Core.Path.{_≡_, refl, sym, _∙_, ap, subst}
+use Prim.Native.Nat.{ℕ, _≤_, _<_}
+use mathlib.Core.Path.{_≡_, refl, sym, _∙_, ap}
 use mathlib.Core.Bool.{Bool, true}
 use mathlib.Core.Logic.{_↔_, Iff·trans}
-use mathlib.Core.List.{List}
+use mathlib.Core.List.{List, [], _∷_}
 use native.Mathlib.Omega.{arith}
 use lib.Dec.{eqb}
 use lib.ListN.{length}
 use Rattle.rules.specs.Connectives.{oneIf}
-use Rattle.rules.specs.Lists.{any, countIf}
+use Rattle.rules.specs.Lists.{any, countIf, sumOf}
 use Rattle.rules.specs.HallLine.{Band, holds}
+use Rattle.rules.specs.NodesLanesEdges.{lanes}
 use Rattle.rules.specs.Profile.{Profile}
 use Rattle.rules.specs.Flags.{flagsOf, flagAt}
 use Rattle.rules.specs.Search.{taken, stabOf}
 use Rattle.rules.proofs.Means.{itself, eq-means, lt-means, same-means}
-use Rattle.rules.proofs.Lists.{In, Some, Each, Distinct, any-means, all-means, member-means, distinct-means, in-kept, ascends-keep, ascends-once}
+use Rattle.rules.proofs.Lists.{In, Some, Each, Distinct, all-means, member-means, distinct-means, in-kept, keep-one, ascends-keep}
+use Rattle.rules.proofs.NodesLanesEdges.{Asc, NodeAt}
 use Rattle.rules.proofs.Profile.{NumbersAsc}
+use Rattle.rules.proofs.Theory.OverOnce.{timesOver, over-once}
 use Rattle.rules.proofs.Marks.{in-numbers, numbersHolding, length-of-numbers}
 use Rattle.rules.proofs.Flags.{flag-set-where-in, count-without-repeats, flags-by-members}
 use Rattle.rules.proofs.Theory.SearchReaches.{takes-marked-over}
 use Rattle.rules.proofs.Sums.{at-most-one, count-all, count-one, in-counted, distinct-by-counts}
-use Rattle.rules.proofs.Theory.MarkedOver.{NodesRight, standing-nodes-right, asked, count-numbers, marked-over-count}
+use Rattle.rules.proofs.Theory.MarkedOver.{NodesRight, standing-nodes-right, asked, count-numbers, count-in-lanes, marked-over-count}
 use Rattle.rules.proofs.SoundMemory.{Standing}
 
 -- of ascending bands those with one number are one or none
@@ -39,6 +42,26 @@ one-numbered f n bs a =
 -- ---- what the search takes
 
 module _ (p : Profile) (k : ℕ) where
+  -- on ascending nodes with levels of at least 1 where both ends of the band are nodes, whatever the other bands, the search takes the band
+  -- exactly once if it holds the key and never otherwise
+  pub band-met-once : Asc 0 (p .nodes) → Each (λ n. 1 ≤ n .level) (p .nodes) → NumbersAsc 0 (p .bands)
+      → (b : Band) → In b (p .bands) → NodeAt (b .low) (p .nodes) → NodeAt (b .high) (p .nodes)
+      → countIf (λ n. eqb n (b .number)) (taken p k) ≡ oneIf (holds b k)
+  band-met-once a levels numbers b i low high =
+      ap (countIf (λ n. eqb n (b .number))) (takes-marked-over p k a)
+      ∙ count-in-lanes (λ n. eqb n (b .number)) p k lanes
+      ∙ ap (sumOf (λ c. timesOver (p .nodes) c k)) alone
+      ∙ just-one
+      ∙ over-once (p .nodes) b k a levels low high
+    where
+      alone : asked (λ n. eqb n (b .number)) (p .bands) ≡ b ∷ []
+      alone =
+          keep-one (λ c. c .number) (λ c. eqb (c .number) (b .number)) 0 (p .bands) numbers b i (eq-means (b .number) (b .number) .test refl)
+          (λ c j e. eq-means (c .number) (b .number) .fact e)
+
+      just-one : sumOf (λ c. timesOver (p .nodes) c k) (b ∷ []) ≡ timesOver (p .nodes) b k
+      just-one = omega arith
+
   module _ (right : NodesRight p) where
     -- for any test, as many of the numbers taken pass as of the numbers of the bands that hold the key
     pub met-once : (t : ℕ → Bool) → countIf t (taken p k) ≡ countIf t (numbersHolding (p .bands) k)
@@ -89,21 +112,11 @@ module _ (p : Profile) (k : ℕ) where
         ∙ count-numbers (λ m. eqb m n) (λ b. holds b k) (p .bands)
         ∙ one-numbered (λ b. holds b k) n (p .bands) (standing .numbers-ascend)
 
-    -- the search takes a live band once if it holds the key and never otherwise
-    pub band-met-once : Each (λ b. countIf (λ n. eqb n (b .number)) (taken p k) ≡ oneIf (holds b k)) (p .bands)
-    band-met-once b i =
-        met-with-number (b .number)
-        ∙ ap oneIf
-        (same-means
-        (any-means (λ c. itself (holds c k)) (asked (λ m. eqb m (b .number)) (p .bands)))
-        (itself (holds b k))
-        (λ s. subst (λ c. holds c k ≡ true) (same (s .0) (s .1)) (s .2))
-        (λ h. (b, in-kept (λ c. eq-means (c .number) (b .number)) b (p .bands) .1 (i, refl), h)))
-      where
-        same : Each (λ c. c ≡ b) (asked (λ m. eqb m (b .number)) (p .bands))
-        same c j =
-            let m = in-kept (λ d. eq-means (d .number) (b .number)) c (p .bands) .0 j in
-            ascends-once (λ d. d .number) 0 (p .bands) (standing .numbers-ascend) c b (m .0) i (m .1)
+    -- each live band is met once if it holds the key and never otherwise
+    pub live-band-met-once : Each (λ b. countIf (λ n. eqb n (b .number)) (taken p k) ≡ oneIf (holds b k)) (p .bands)
+    live-band-met-once b i =
+        let ends = standing .ends-stand b i in
+        band-met-once (standing .keys-ascend) (λ n j. standing .levels-right n j .0) (standing .numbers-ascend) b i (ends .0) (ends .1)
 
     -- no band is met twice
     pub none-met-twice : Distinct (taken p k)

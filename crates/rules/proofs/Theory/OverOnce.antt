@@ -1,4 +1,4 @@
--- One band and one key: on ascending nodes where both ends of the band stand, the edges over the key and a node at the key bear the band's
+-- One band and one key: on ascending nodes with levels of at least 1 where both ends of the band stand, the edges over the key and a node at the key bear the band's
 -- mark once in all if the band holds the key, and never otherwise.
 -- Assumes nothing.
 use Prim.Native.Nat.{ℕ, suc, _+_, _-_, _≤_}
@@ -17,7 +17,7 @@ use Rattle.rules.proofs.Lists.{In, Some, Each, any-means, lane-means, l
 use Rattle.rules.proofs.HallLine.{Past, Before, holds-means}
 use Rattle.rules.proofs.NodesLanesEdges.{Asc, NodeAt, in-lane, edges-ascend, stands-at-means}
 use Rattle.rules.proofs.Marks.{PassesOver, passes-over-means, passed-over-in-lane-means, edge-mark-rule}
-use Rattle.rules.proofs.Theory.EdgesNest.{nested, same-edge, edge-over}
+use Rattle.rules.proofs.Theory.EdgesNest.{nested, one-over, edge-over}
 use Rattle.rules.proofs.Sums.{count-one, lanes-same, highest-once}
 
 -- how often the band is marked on the edges of lane i that pass over k
@@ -69,15 +69,11 @@ module _ (ns : List Node) (b : Band) (k : ℕ) (a : Asc 0 ns) where
         (s .0 .2 .0, (s .0 .2 .1, λ j l u f m c n. s .1 j l (omega arith) (f, m, ((omega arith, omega arith), n)))),
       ))
 
-  -- at most one edge of a lane passes over k
-  pub one-over : (i : ℕ) (e f : Edge) → In e (edgesIn i ns) → In f (edgesIn i ns) → PassesOver e k → PassesOver f k → e ≡ f
-  one-over i e f p q u v = same-edge 0 ns a i e f p q (omega arith) (omega arith)
-
-  -- so the band is marked over k in lane i once or never
+  -- at most one edge of the lane passes over k, so the band is marked over k in lane i once or never
   times-in-lane : (i : ℕ) → timesOverIn ns b k i ≡ oneIf (passedOverInLane ns b k i and not (inSomeLaneAbove i (passedOverInLane ns b k)))
   times-in-lane i =
       count-one (λ e. e .from) (λ e. passesOver e k and edgeMarked ns b i e) 0 (edgesIn i ns) (edges-ascend i 0 ns a)
-      (λ e f p q u v. ap (λ g. g .from) (one-over i e f p q (over e u) (over f v)))
+      (λ e f p q u v. ap (λ g. g .from) (one-over 0 ns a i k e f p q (over e u) (over f v)))
       ∙ ap oneIf (marked-over i)
     where
       over : (e : Edge) → passesOver e k and edgeMarked ns b i e ≡ true → PassesOver e k

@@ -12,13 +12,13 @@ use Rattle.rules.specs.Lists.{addIf, keep, firstOf, onlyIf}
 use Rattle.rules.specs.NodesLanesEdges.{Node, Edge, edgeOf, lanes, takesPart, laneOf, edgesIn}
 use Rattle.rules.specs.Profile.{Profile}
 use Rattle.rules.specs.Marks.{passesOver, markedOnEdge}
-use Rattle.rules.specs.Search.{Here, header, on, Spot, spotOf, dropAmong, dropIn, dropTakes, takesFrom, start, taken}
+use Rattle.rules.specs.Search.{Here, header, on, Spot, spotOf, dropAmong, dropIn, dropTakes, takesFrom, start, taken, stepsOf}
 use Rattle.rules.proofs.Means.{denied, lt-means, lt-fails, at-most-or-above}
 use Rattle.rules.proofs.Lists.{In, Each, each-cons, in-kept, keep-none, keep-one, keep-again, keep-above-first, first-least, ascends-keep}
 use Rattle.rules.proofs.NodesLanesEdges.{takes-part-means, in-lane, Asc, lane-ascends, Joins, edge-rule, edges-ascend}
 use Rattle.rules.proofs.Marks.{PassesOver, passes-over-means}
 use Rattle.rules.proofs.Search.{markedAlong, edgesOver, markedOver}
-use Rattle.rules.proofs.Theory.EdgesNest.{lane-falls, in-own-lane, joins, same-edge, none-over-own}
+use Rattle.rules.proofs.Theory.EdgesNest.{lane-falls, in-own-lane, joins, none-over-own, one-over}
 
 -- the nodes after the header are all, the nodes after the node at x those of greater key
 abbrev pub nodesAfter : Here → List Node → List Node
@@ -163,8 +163,7 @@ module _ (ns : List Node) (a : Asc 0 ns) where
     pub one-edge-over : (e : Edge) → In e (edgesIn i ns) → PassesOver e k → edgesOver k i ns ≡ e ∷ []
     one-edge-over e m o =
         keep-one (λ f. f .from) (λ f. passesOver f k) 0 (edgesIn i ns) (edges-ascend i 0 ns a) e m (passes-over-means e k .test o)
-        (λ f j q. let u = passes-over-means f k .fact q in
-        ap (λ g. g .from) (same-edge 0 ns a i f e j m (omega (arith, o .0, u .1)) (omega (arith, o .1, u .0))))
+        (λ f j q. ap (λ g. g .from) (one-over 0 ns a i k f e j m (passes-over-means f k .fact q) o))
 
     over-ahead : (h : Here) (ys : List ℕ) → LastBelow k (laneOf i ns) h → laneOf i (nodesAfter h ns) ≡ ys → edgesOver k i ns ≡ edgeAhead k h ys
     over-ahead header ys l q = no-edge-over (λ e m o. omega (arith, o .0, l (e .from) (joins 0 ns a i e m .from-in)))
@@ -209,7 +208,16 @@ module _ (p : Profile) (k : ℕ) where
       go true = sym (append-nil (markedOnEdge p i (edgeOf x y)))
       go false = refl
 
-  -- the search drops a lane from where it dropped the lane above
+  -- the search starts at the header ..
+  pub drop-spot-start : dropSpot p k lanes ≡ start p
+  drop-spot-start = refl
+
+  -- .. its steps are those counted when lane 0 is dropped ..
+  pub steps-at-last-drop : stepsOf p k ≡ dropSpot p k 0 .steps
+  unfolding stepsOf
+  steps-at-last-drop = refl
+
+  -- .. and it drops a lane from where it dropped the lane above
   pub drop-spot-follows : (i : ℕ) → i < lanes → dropSpot p k i ≡ dropIn i k (dropSpot p k (suc i))
   drop-spot-follows i l = let more : lanes - i ≡ suc (lanes - suc i) = omega arith in rw more
 

@@ -16,7 +16,7 @@ use Rattle.rules.specs.Lists.{addIf, firstOf, sumOf}
 use Rattle.rules.specs.HallLine.{Band, holds}
 use Rattle.rules.specs.NodesLanesEdges.{Node, Edge, edgeOf, lanes, takesPart, laneOf, edgesIn}
 use Rattle.rules.specs.Profile.{Profile}
-use Rattle.rules.specs.Marks.{edgeMarked, marksOf, marksInUse}
+use Rattle.rules.specs.Marks.{edgeMarked, nodeMarked, marksOf, marksInUse}
 use Rattle.rules.specs.Staircase.{slotNumber, markedLinks, markedSlotsFrom, markedSlots, Stair, stairOf, stairIn, orElse, highestStair, along, walkFrom, walk}
 use Rattle.rules.proofs.Means.{Means, denied, never}
 use Rattle.rules.proofs.Lists.{In, Each, some-cons, first-in, Ascends}
@@ -27,7 +27,7 @@ use Rattle.rules.proofs.SoundMemory.{Standing}
 use Rattle.rules.proofs.Sums.{sum-same}
 use Rattle.rules.proofs.Theory.EdgesOut.{LeadsOut, Ahead, all-ahead, node-ahead, rest-ahead, lane-ahead, next-edge}
 use Rattle.rules.proofs.Theory.Links.{link-means, link-bare, no-links, one-link}
-use Rattle.rules.proofs.Theory.MarkedSlots.{SlotMarked, slot-rule, every-slot, slots-ascend, slot-count, out-slot}
+use Rattle.rules.proofs.Theory.MarkedSlots.{SlotMarked, slot-rule, node-slot, every-slot, slots-ascend, slot-count, out-slot}
 
 -- ---- the highest stair
 
@@ -184,7 +184,12 @@ module _ (ns : List Node) (b : Band) (a : Asc 0 ns) (levels : Each (λ n. Level 
   pub walk-count : length (walk ns b) ≡ marksOf ns b
   walk-count = ap length walk-slots ∙ slot-count ns b
 
-  -- an edge of a lane is marked exactly when the walk visits its slot, at the node that it leads out of
+  -- a node is marked exactly when the walk visits its slot ..
+  pub walk-visits-node : (j : ℕ) (n : Node) (rest : List Node) → drop j ns ≡ n ∷ rest
+      → In (slotNumber j 0) (walk ns b) ↔ (nodeMarked ns b (n .key) ≡ true)
+  walk-visits-node j n rest at = rw walk-slots (node-slot ns b j n rest at)
+
+  -- .. and an edge of a lane exactly when the walk visits its slot, at the node that it leads out of
   pub walk-visits-edge : (i : ℕ) → i < lanes → (e : Edge) (j : ℕ) → LeadsOut i (drop j ns) e
       → In (slotNumber j (suc i)) (walk ns b) ↔ (edgeMarked ns b i e ≡ true)
   walk-visits-edge i l e j o = rw walk-slots (out-slot ns b i j l e o)

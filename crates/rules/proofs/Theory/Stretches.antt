@@ -1,4 +1,4 @@
--- "What one call can reach", the stretches, for any two ascending lists of nodes: whatever is made, dropped, or made again with another level,
+-- "What one call can reach", the stretches, for any two ascending lists of nodes on the line, whatever is made, dropped, or made again:
 -- an edge that lies in no stretch is an edge of its lane both before and after, so marks outside the stretches are the same, both ways.
 -- Assumes nothing.
 use Prim.Native.Nat.{ℕ, _≤_, _<_}
