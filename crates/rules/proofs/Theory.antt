@@ -7,7 +7,7 @@
 --   OverOnce          one band: marked once over a key that it holds, and never over another
 --   SearchReaches     the search drops each lane at its last node below the key, and takes what is marked over the key
 --   LooksAreSteps     the search steps onto as many nodes as the looks count
---   MarkedOver         what is marked over a key, counted band by band
+--   MarkedOver        what is marked over a key, counted band by band
 --   MetOnce           the search meets each band that holds the key once, and no other; flags, count and marks met
 --   Links             the marked links of a node
 --   MarkedSlots       a band's marked slots are the rule's marks: each once, in order, as many

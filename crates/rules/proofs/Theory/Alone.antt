@@ -26,9 +26,10 @@ use Rattle.rules.proofs.Theory.MetOnce.{taken-are-those-holding, met-is
 use Rattle.rules.proofs.Theory.StandingKept.{insert-keeps-standing, remove-keeps-standing}
 
 -- a machine's band holds no key of another machine
-pub holds-no-other : (b : Band) → BandRight b → b .scope < machines → (k : ℕ) → ownKey (b .scope) k ≡ false → holds b k ≡ false
-holds-no-other b right l k other =
-    ⊎-elim (λ h. never (sym other ∙ scope-keeps b l (right .in-scope) k h)) (λ e. e) (passes-or-fails (holds b k))
+pub holds-no-other : (b : Band) → BandRight b → b .scope < machines → (n : ℕ) → (n ≡ b .scope → ⊥) → (k : ℕ) → ownKey n k ≡ true
+    → holds b k ≡ false
+holds-no-other b right l n off k own =
+    ⊎-elim (λ h. absurd (off (one-machine n (b .scope) k own (scope-keeps b l (right .in-scope) k h)))) (λ e. e) (passes-or-fails (holds b k))
 
 -- every band of another scope is live in both profiles or in neither
 abbrev pub DifferOnlyIn : ℕ → Profile → Profile → Type 0
@@ -38,33 +39,34 @@ DifferOnlyIn m p q = (b : Band) → (b .scope ≡ m → ⊥) → In b (p .bands)
 abbrev pub HeldBy : Profile → ℕ → ℕ → Type 0
 HeldBy p k n = Some (λ b. (holds b k ≡ true) × (b .number ≡ n)) (p .bands)
 
-module _ (m k : ℕ) (l : m < machines) (other : ownKey m k ≡ false) where
-  -- a band that holds a key of another machine is not of scope m ..
+-- at a key of a machine other than m:
+module _ (m n k : ℕ) (l : m < machines) (off : n ≡ m → ⊥) (own : ownKey n k ≡ true) where
+  -- a band that holds it is not of scope m ..
   not-of-scope : (b : Band) → BandRight b → holds b k ≡ true → b .scope ≡ m → ⊥
-  not-of-scope b right h e = never (sym (holds-no-other b right (rw e l) k (rw e other)) ∙ h)
+  not-of-scope b right h e = never (sym (holds-no-other b right (rw e l) n (λ q. off (q ∙ e)) k own) ∙ h)
 
   -- .. so it is live in the other profile too
   held-too : (p q : Profile) → Each BandRight (p .bands) → ((b : Band) → (b .scope ≡ m → ⊥) → In b (p .bands) → In b (q .bands))
-      → (n : ℕ) → HeldBy p k n → HeldBy q k n
-  held-too p q right live n s = (s .0, live (s .0) (not-of-scope (s .0) (right (s .0) (s .1)) (s .2 .0)) (s .1), s .2)
+      → (x : ℕ) → HeldBy p k x → HeldBy q k x
+  held-too p q right live x s = (s .0, live (s .0) (not-of-scope (s .0) (right (s .0) (s .1)) (s .2 .0)) (s .1), s .2)
 
   module _ (p q : Profile) (before : Standing p) (after : Standing q) (only : DifferOnlyIn m p q) where
     -- .. and what a search takes there in one it takes in the other
-    same-taken : (n : ℕ) → member n (taken p k) ≡ member n (taken q k)
-    same-taken n =
-        let in-p = taken-are-those-holding p k (standing-nodes-right p before) n in
-        let in-q = taken-are-those-holding q k (standing-nodes-right q after) n in
-        same-means (member-means n (taken p k)) (member-means n (taken q k))
-        (λ i. in-q .1 (held-too p q (before .bands-right) (λ b o. only b o .0) n (in-p .0 i)))
-        (λ i. in-p .1 (held-too q p (after .bands-right) (λ b o. only b o .1) n (in-q .0 i)))
+    same-taken : (x : ℕ) → member x (taken p k) ≡ member x (taken q k)
+    same-taken x =
+        let in-p = taken-are-those-holding p k (standing-nodes-right p before) x in
+        let in-q = taken-are-those-holding q k (standing-nodes-right q after) x in
+        same-means (member-means x (taken p k)) (member-means x (taken q k))
+        (λ i. in-q .1 (held-too p q (before .bands-right) (λ b o. only b o .0) x (in-p .0 i)))
+        (λ i. in-p .1 (held-too q p (after .bands-right) (λ b o. only b o .1) x (in-q .0 i)))
 
     same-flags : stabOf p k .flags ≡ stabOf q k .flags
     unfolding stabOf
-    same-flags = flags-by-members (taken p k) (taken q k) (λ n l. same-taken n)
+    same-flags = flags-by-members (taken p k) (taken q k) (λ x u. same-taken x)
 
     same-count : stabOf p k .count ≡ stabOf q k .count
     unfolding stabOf
-    same-count = count-by-members (taken p k) (taken q k) (λ n l. same-taken n)
+    same-count = count-by-members (taken p k) (taken q k) (λ x u. same-taken x)
 
     same-met : stabOf p k .met ≡ stabOf q k .met
     same-met = met-is-count p k before ∙ same-count ∙ sym (met-is-count q k after)
@@ -72,11 +74,11 @@ module _ (m k : ℕ) (l : m < machines) (other : ownKey m k ≡ false) where
 -- two standing profiles whose bands differ only in those of scope m answer alike at every key of every other machine
 pub others-alike : (m : ℕ) (p q : Profile) → Standing p → Standing q → DifferOnlyIn m p q → OthersAlike m p q
 others-alike m p q before after only l n below off k own =
-    answers-alike-means p q k .test
-    (same-flags m k l other p q before after only, same-count m k l other p q before after only, same-met m k l other p q before after only)
-  where
-    other : ownKey m k ≡ false
-    other = ⊎-elim (λ o. absurd (off (one-machine n m k own o))) (λ e. e) (passes-or-fails (ownKey m k))
+    answers-alike-means p q k .test (
+      same-flags m n k l off own p q before after only,
+      same-count m n k l off own p q before after only,
+      same-met m n k l off own p q before after only,
+    )
 
 module _ (sizesRight sound : Bool) (room : Room) (p : Profile) (s : Standing p) where
   -- an insert of scope below 64, accepted or refused, leaves flags, count and marks met the same at every key of every other machine

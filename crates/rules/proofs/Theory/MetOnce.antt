@@ -67,7 +67,7 @@ module _ (p : Profile) (k : ℕ) where
     pub met-once : (t : ℕ → Bool) → countIf t (taken p k) ≡ countIf t (numbersHolding (p .bands) k)
     met-once t = ap (countIf t) (takes-marked-over p k (right .keys-ascend)) ∙ marked-over-count t p k right
 
-    -- it takes as many marks as there are bands that hold the key
+    -- the search takes as many marks as there are bands that hold the key
     pub taken-as-many : length (taken p k) ≡ countIf (λ b. holds b k) (p .bands)
     taken-as-many =
         sym (count-all (taken p k))
