@@ -2,7 +2,7 @@
 -- that a node that stood keeps its level and a made one has the level given, and that no other band comes or goes.
 -- Assumes nothing.
 use Prim.Native.Nat.{ℕ, _≤_}
-use mathlib.Core.Path.{_≡_, refl, ap}
+use mathlib.Core.Path.{_≡_, refl, sym, subst}
 use mathlib.Core.Bool.{Bool, not}
 use mathlib.Core.Logic.{_↔_, Iff·trans, _⊎_, inl, inr, ⊎-elim, ⊎-map}
 use mathlib.Core.List.{List}
@@ -15,7 +15,7 @@ use Rattle.rules.specs.Changes.{withBand, withEnds, inserted, nodesAtEnd
 use Rattle.rules.proofs.Means.{Means, reworded, denied, not-means}
 use Rattle.rules.proofs.Lists.{In, Some, Each, in-kept, ascends-keep, length-keep, in-placed, placed-ascends}
 use Rattle.rules.proofs.NodesLanesEdges.{NodeAt, NoNodeAt, stands-at-means, EndOf, is-end-of-some-means, Asc, level-there, in-with-node, at-with-node, with-node-ascends}
-use Rattle.rules.proofs.Profile.{has-number-means, NumbersAsc}
+use Rattle.rules.proofs.Profile.{has-number-means, SameBut, NumbersAsc}
 
 -- ---- a band among the others
 
@@ -105,10 +105,10 @@ module _ (p : Profile) (b : Band) (lo hi : ℕ) where
   unfolding inserted
   inserted-bands-ascend h a = with-band-ascends b 0 (p .bands) (omega arith) h a
 
-  -- no band of another number comes or goes
-  pub insert-keeps-others : (c : Band) → (c .number ≡ b .number → ⊥) → In c (inserted p b lo hi .bands) ↔ In c (p .bands)
-  insert-keeps-others c off =
-      (λ i. ⊎-elim (λ e. absurd (off (ap (λ d. d .number) e))) (λ j. j) (in-inserted-bands c .0 i), λ j. in-inserted-bands c .1 (inr j))
+  -- no band comes or goes that is not so, whatever the inserted band is
+  pub insert-keeps-others : (P : Band → Type 0) → P b → SameBut P p (inserted p b lo hi)
+  insert-keeps-others P h c off =
+      (λ j. in-inserted-bands c .1 (inr j), λ i. ⊎-elim (λ e. absurd (off (subst P (sym e) h))) (λ j. j) (in-inserted-bands c .0 i))
 
 -- ---- the profile after a remove
 
@@ -160,6 +160,6 @@ module _ (p : Profile) (number : ℕ) where
   unfolding removed withoutWhere nodesAtEnds
   removed-nodes-no-more = length-keep _ (p .nodes)
 
-  -- no band of another number comes or goes
-  pub remove-keeps-others : (b : Band) → (b .number ≡ number → ⊥) → In b (removed p number .bands) ↔ In b (p .bands)
-  remove-keeps-others b off = (λ i. in-removed-bands b .0 i .0, λ j. in-removed-bands b .1 (j, off))
+  -- no band comes or goes that is not so, whatever the bands of the number are
+  pub remove-keeps-others : (P : Band → Type 0) → Each (λ b. b .number ≡ number → P b) (p .bands) → SameBut P p (removed p number)
+  remove-keeps-others P h b off = (λ j. in-removed-bands b .1 (j, λ e. off (h b j e)), λ i. in-removed-bands b .0 i .0)

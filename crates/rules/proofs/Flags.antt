@@ -18,10 +18,7 @@ use Rattle.rules.specs.Lists.{all, sumOf, member, distinct, countFrom}
 use Rattle.rules.specs.Flags.{flagsOf, flagAt, countOf, bitsFrom, wordsFrom}
 use Rattle.rules.proofs.Means.{and-both}
 use Rattle.rules.proofs.Lists.{In, member-means}
-
-oneIf-below-two : (b : Bool) → oneIf b < 2
-oneIf-below-two true = omega arith
-oneIf-below-two false = omega arith
+use Rattle.rules.proofs.Sums.{at-most-one}
 
 oneIf-one-to-one : (b c : Bool) → oneIf b ≡ oneIf c → b ≡ c
 oneIf-one-to-one true true e = refl
@@ -37,14 +34,14 @@ shift-once-more x i = rw pow-succ' (sym (div-div-eq-div-mul x 2 (2 ^ i)))
 module _ (f : ℕ → Bool) where
   -- a word is its lowest bit and the word of the numbers after it: the laws below go by that
   bits-lowest : (a m : ℕ) → bitsFrom f a (suc m) % 2 ≡ oneIf (f a)
-  bits-lowest a m = omega (arith, oneIf-below-two (f a))
+  bits-lowest a m = omega (arith, at-most-one (f a))
 
   bits-rest : (a m : ℕ) → bitsFrom f a (suc m) / 2 ≡ bitsFrom f (suc a) m
-  bits-rest a m = omega (arith, oneIf-below-two (f a))
+  bits-rest a m = omega (arith, at-most-one (f a))
 
   pub bits-below-power : (a m : ℕ) → bitsFrom f a m < 2 ^ m
   bits-below-power a zero = omega arith
-  bits-below-power a (suc m) = omega (arith, oneIf-below-two (f a), bits-below-power (suc a) m)
+  bits-below-power a (suc m) = omega (arith, at-most-one (f a), bits-below-power (suc a) m)
 
   pub bit-of-number : (a m i : ℕ) → i < m → bitsFrom f a m / 2 ^ i % 2 ≡ oneIf (f (a + i))
   bit-of-number a zero i h = absurd (not-suc-le-zero h)
@@ -59,7 +56,7 @@ module _ (f : ℕ → Bool) where
 
   pub count-at-most : (a m : ℕ) → countFrom f a m ≤ m
   count-at-most a zero = omega arith
-  count-at-most a (suc m) = omega (arith, oneIf-below-two (f a), count-at-most (suc a) m)
+  count-at-most a (suc m) = omega (arith, at-most-one (f a), count-at-most (suc a) m)
 
   pub count-splits : (a m n : ℕ) → countFrom f a (m + n) ≡ countFrom f a m + countFrom f (a + m) n
   count-splits a zero n = simp (zero-add, add-zero)

@@ -104,6 +104,10 @@ module _ {t : Bool} {X : Type 0} where
         test = λ n. ⊎-elim (λ e. absurd (n (m .fact e))) (λ e. e) (passes-or-fails t);
       }
 
+  -- what is tested is so, or is not
+  pub so-or-not : Means t X → X ⊎ (X → ⊥)
+  so-or-not m = ⊎-map (m .fact) (denied m .fact) (passes-or-fails t)
+
   pub not-means : Fails t X → Means (not t) X
   not-means m = record { fact = λ e. m .fact (not-true t e); test = λ x. ap not (m .test x) }
 

@@ -7,7 +7,7 @@ use mathlib.Core.List.{List}
 use mathlib.Core.Option.{Option, none, some}
 use Rattle.rules.specs.Lists.{keep}
 use Rattle.rules.specs.HallLine.{Band}
-use Rattle.rules.specs.Profile.{hasNumber, isLive, bandNumbered}
+use Rattle.rules.specs.Profile.{Profile, hasNumber, isLive, bandNumbered}
 use Rattle.rules.proofs.Means.{Means, eq-means}
 use Rattle.rules.proofs.Lists.{In, Some, Each, any-means, in-keep, first-in, first-none, Ascends, ascends-once}
 
@@ -18,6 +18,10 @@ has-number-means n b = eq-means (b .number) n
 pub is-live-means : (n : ℕ) (bs : List Band) → Means (isLive n bs) (Some (λ b. b .number ≡ n) bs)
 unfolding isLive
 is-live-means n bs = any-means (has-number-means n) bs
+
+-- each band that is not so is live in both profiles or in neither
+abbrev pub SameBut : (Band → Type 0) → Profile → Profile → Type 0
+SameBut P p q = (b : Band) → (P b → ⊥) → In b (p .bands) ↔ In b (q .bands)
 
 -- band numbers ascend strictly, the first at least c
 abbrev pub NumbersAsc : ℕ → List Band → Type 0

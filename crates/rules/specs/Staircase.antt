@@ -27,14 +27,15 @@ unfoldable pub linkMarked : List Node → Band → ℕ → ℕ → List ℕ → 
 linkMarked ns b i x [] = false
 linkMarked ns b i x (y ∷ ys) = edgeMarked ns b i (edgeOf x y)
 
+-- the rule marks the band on the edge of lane i out of n, with `rest` after n
+abbrev pub outMarked : List Node → Band → Node → List Node → ℕ → Bool
+outMarked ns b n rest i = takesPart i n and linkMarked ns b i (n .key) (laneOf i rest)
+
 -- the marked slots among the m lanes from lane i up, of node n with j nodes before it and `rest` after it
 abbrev pub markedLinks : List Node → Band → ℕ → Node → List Node → ℕ → ℕ → List ℕ
 markedLinks ns b j n rest i zero = []
 markedLinks ns b j n rest i (suc m) =
-    addIf
-    (takesPart i n and linkMarked ns b i (n .key) (laneOf i rest))
-    (slotNumber j (suc i))
-    (markedLinks ns b j n rest (suc i) m)
+    addIf (outMarked ns b n rest i) (slotNumber j (suc i)) (markedLinks ns b j n rest (suc i) m)
 
 -- the slots that the rule marks for the band, of the nodes that have j others before them: node by node, at each its slots in order
 abbrev pub markedSlotsFrom : List Node → Band → ℕ → List Node → List ℕ

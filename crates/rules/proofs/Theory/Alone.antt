@@ -2,27 +2,27 @@
 -- same bands, count and marks met at every key of every other machine; and the profile after a call of that scope is such a one.
 -- Assumes nothing.
 use Prim.Native.Nat.{ℕ, _<_}
-use mathlib.Core.Path.{_≡_, sym, _∙_, ap}
+use mathlib.Core.Path.{_≡_, refl, sym, _∙_}
 use mathlib.Core.Bool.{Bool, true, false}
-use mathlib.Core.Logic.{_↔_, inr, ⊎-elim}
+use mathlib.Core.Logic.{Iff·rfl, ⊎-elim}
 use Rattle.rules.specs.Lists.{member}
 use Rattle.rules.specs.HallLine.{Band, machines, ownKey, holds}
 use Rattle.rules.specs.Profile.{Profile}
 use Rattle.rules.specs.Room.{Room}
 use Rattle.rules.specs.Search.{taken, stabOf}
-use Rattle.rules.specs.Changes.{inserted, removed}
 use Rattle.rules.specs.BoxSaysNo.{insertOutcome, removeOutcome}
 use Rattle.rules.specs.Reach.{OthersAlike}
 use Rattle.rules.proofs.Means.{never, passes-or-fails, same-means}
-use Rattle.rules.proofs.Lists.{In, Some, Each, member-means}
+use Rattle.rules.proofs.Lists.{In, Each, member-means}
 use Rattle.rules.proofs.HallLine.{scope-keeps, one-machine}
+use Rattle.rules.proofs.Profile.{SameBut}
 use Rattle.rules.proofs.Flags.{flags-by-members, count-by-members}
-use Rattle.rules.proofs.Changes.{in-inserted-bands, in-removed-bands}
-use Rattle.rules.proofs.BoxSaysNo.{BandRight, RemoveAccepted, insert-keeps, remove-keeps}
+use Rattle.rules.proofs.Changes.{insert-keeps-others, remove-keeps-others}
+use Rattle.rules.proofs.BoxSaysNo.{BandRight, insert-keeps, remove-keeps}
 use Rattle.rules.proofs.SoundMemory.{Standing}
 use Rattle.rules.proofs.Reach.{answers-alike-means}
 use Rattle.rules.proofs.Theory.MarkedOver.{standing-nodes-right}
-use Rattle.rules.proofs.Theory.MetOnce.{taken-are-those-holding, met-is-count}
+use Rattle.rules.proofs.Theory.MetOnce.{HeldBy, taken-are-those-holding, met-is-count}
 use Rattle.rules.proofs.Theory.StandingKept.{insert-keeps-standing, remove-keeps-standing}
 
 -- a machine's band holds no key of another machine
@@ -31,13 +31,9 @@ pub holds-no-other : (b : Band) → BandRight b → b .scope < machines → (n :
 holds-no-other b right l n off k own =
     ⊎-elim (λ h. absurd (off (one-machine n (b .scope) k own (scope-keeps b l (right .in-scope) k h)))) (λ e. e) (passes-or-fails (holds b k))
 
--- every band of another scope is live in both profiles or in neither
+-- only bands of scope m are live in one of the two profiles and not in the other
 abbrev pub DifferOnlyIn : ℕ → Profile → Profile → Type 0
-DifferOnlyIn m p q = (b : Band) → (b .scope ≡ m → ⊥) → In b (p .bands) ↔ In b (q .bands)
-
--- a live band of the number holds the key
-abbrev pub HeldBy : Profile → ℕ → ℕ → Type 0
-HeldBy p k n = Some (λ b. (holds b k ≡ true) × (b .number ≡ n)) (p .bands)
+DifferOnlyIn m = SameBut (λ b. b .scope ≡ m)
 
 -- at a key of a machine other than m:
 module _ (m n k : ℕ) (l : m < machines) (off : n ≡ m → ⊥) (own : ownKey n k ≡ true) where
@@ -85,20 +81,14 @@ module _ (sizesRight sound : Bool) (room : Room) (p : Profile) (s : Standing p) 
   pub insert-alone : (b : Band) (lo hi : ℕ) → OthersAlike (b .scope) p (insertOutcome sizesRight sound room p b lo hi .profile)
   insert-alone b lo hi =
       others-alike (b .scope) p _ s (insert-keeps-standing sizesRight sound room p b lo hi s)
-      (insert-keeps (DifferOnlyIn (b .scope) p) sizesRight sound room p b lo hi (λ c o. (λ i. i, λ i. i)) (λ t. others))
-    where
-      others : DifferOnlyIn (b .scope) p (inserted p b lo hi)
-      others c o =
-          let e = in-inserted-bands p b lo hi c in
-          (λ i. e .1 (inr i), λ i. ⊎-elim (λ same. absurd (o (ap (λ d. d .scope) same))) (λ j. j) (e .0 i))
+      (insert-keeps (DifferOnlyIn (b .scope) p) sizesRight sound room p b lo hi
+      (λ c off. Iff·rfl)
+      (λ t. insert-keeps-others p b lo hi (λ c. c .scope ≡ b .scope) refl))
 
   -- and so does a remove
   pub remove-alone : (number scope : ℕ) → OthersAlike scope p (removeOutcome sizesRight sound room p number scope .profile)
   remove-alone number scope =
       others-alike scope p _ s (remove-keeps-standing sizesRight sound room p number scope s)
-      (remove-keeps (DifferOnlyIn scope p) sizesRight sound room p number scope (λ c o. (λ i. i, λ i. i)) others)
-    where
-      others : RemoveAccepted sizesRight sound room p number scope → DifferOnlyIn scope p (removed p number)
-      others t c o =
-          let e = in-removed-bands p number c in
-          (λ i. e .1 (i, λ same. o (t .scope-same c i same)), λ i. e .0 i .0)
+      (remove-keeps (DifferOnlyIn scope p) sizesRight sound room p number scope
+      (λ c off. Iff·rfl)
+      (λ t. remove-keeps-others p number (λ c. c .scope ≡ scope) (t .scope-same)))

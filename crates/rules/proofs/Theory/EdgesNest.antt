@@ -3,14 +3,14 @@
 -- Assumes nothing.
 use Prim.Native.Nat.{ℕ, suc, _≤_, _<_}
 use mathlib.Core.Path.{_≡_, refl, subst}
-use mathlib.Core.Logic.{_⊎_, inl, inr, ⊎-elim}
+use mathlib.Core.Logic.{_↔_, _⊎_, inl, inr, ⊎-elim}
 use mathlib.Core.List.{List, [], _∷_}
 use native.Mathlib.Omega.{arith}
 use native.Mathlib.Nat.{eq-or-lt-of-le}
 use Rattle.rules.specs.NodesLanesEdges.{Node, Edge, edgeOf, laneOf, edgesFrom, edgesAlong, edgesIn}
 use Rattle.rules.proofs.Means.{at-most-or-above}
-use Rattle.rules.proofs.Lists.{In, Some, Ascends, ascends-from}
-use Rattle.rules.proofs.NodesLanesEdges.{in-lane, Asc, lane-ascends, Joins, edge-rule}
+use Rattle.rules.proofs.Lists.{In, Some, Each, Ascends, ascends-from}
+use Rattle.rules.proofs.NodesLanesEdges.{NodeAt, in-lane, Asc, lane-ascends, Joins, edge-rule}
 use Rattle.rules.proofs.Marks.{Contains, PassesOver}
 
 -- a lane's keys stand in every lane below it
@@ -20,6 +20,21 @@ lane-falls i j k ns l h = let s = in-lane j k ns .0 h in in-lane i k ns .1 (s .0
 -- a node's key stands in each lane that it takes part in
 pub in-own-lane : (i : ℕ) (n : Node) (ns : List Node) → In n ns → i < n .level → In (n .key) (laneOf i ns)
 in-own-lane i n ns m l = in-lane i (n .key) ns .1 (n, m, (l, refl))
+
+-- every node takes part in lane 0
+pub in-lane-zero : (k : ℕ) (ns : List Node) → Each (λ n. 1 ≤ n .level) ns → NodeAt k ns → In k (laneOf 0 ns)
+in-lane-zero k ns levels s = in-lane 0 k ns .1 (s .0, s .1, (levels (s .0) (s .1), s .2))
+
+-- a lane of the nodes from key c on has the lane's keys from c on
+pub in-lane-from : (c : ℕ) (ns ms : List Node) → ((m : Node) → In m ms ↔ (In m ns × (c ≤ m .key)))
+    → (i k : ℕ) → In k (laneOf i ms) ↔ (In k (laneOf i ns) × (c ≤ k))
+in-lane-from c ns ms those i k = (
+  λ h. let s = in-lane i k ms .0 h in
+      let t = those (s .0) .0 (s .1) in
+      (in-lane i k ns .1 (s .0, t .0, s .2), omega (arith, t .1, s .2 .1)),
+  λ h. let s = in-lane i k ns .0 (h .0) in
+      in-lane i k ms .1 (s .0, those (s .0) .1 (s .1, omega (arith, h .1, s .2 .1)), s .2),
+)
 
 -- from x on along ascending keys, up to one above k, there is an edge over k
 over-from : (k y x : ℕ) (ks : List ℕ) → Ascends (λ z. z) (suc x) ks → x ≤ k → In y ks → k < y

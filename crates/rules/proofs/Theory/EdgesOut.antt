@@ -15,7 +15,7 @@ use Rattle.rules.specs.NodesLanesEdges.{Node, Edge, edgeOf, takesPart, l
 use Rattle.rules.proofs.Means.{never, at-most-or-above}
 use Rattle.rules.proofs.Lists.{In, Each, at-some-place, ascends-from, ascends-once, first-in, first-least}
 use Rattle.rules.proofs.NodesLanesEdges.{Asc, takes-part-means, in-lane, lane-ascends, edge-rule}
-use Rattle.rules.proofs.Theory.EdgesNest.{in-own-lane}
+use Rattle.rules.proofs.Theory.EdgesNest.{in-own-lane, in-lane-from}
 
 -- ---- the edges of a lane are the edges out of its nodes
 
@@ -110,13 +110,7 @@ module _ {ns : List Node} {c : ℕ} {n : Node} {rest : List Node} (f : Ahead ns 
 
   -- the same along a lane
   pub lane-ahead : (i k : ℕ) → In k (laneOf i rest) ↔ (In k (laneOf i ns) × (n .key < k))
-  lane-ahead i k = (
-    λ h. let s = in-lane i k rest .0 h in
-        let t = rest-ahead .those (s .0) .0 (s .1) in
-        (in-lane i k ns .1 (s .0, t .0, s .2), omega (arith, t .1, s .2 .1)),
-    λ h. let s = in-lane i k ns .0 (h .0) in
-        in-lane i k rest .1 (s .0, rest-ahead .those (s .0) .1 (s .1, omega (arith, h .1, s .2 .1)), s .2),
-  )
+  lane-ahead = in-lane-from (suc (n .key)) ns rest (rest-ahead .those)
 
   -- a lane's edge out of the node leads to the first of the lane's keys ahead
   pub next-edge : Asc 0 ns → (i y : ℕ) → ((i < n .level) × (firstOf (laneOf i rest) ≡ some y)) ↔ In (edgeOf (n .key) y) (edgesIn i ns)

@@ -38,17 +38,17 @@ last-apart : (f : ℕ → ℕ) (i m j : ℕ) → i + m ≡ j → sumLanes f i (s
 last-apart f i zero j e = let same : i ≡ j = omega arith in rw same (omega arith)
 last-apart f i (suc m) j e = omega (arith, last-apart f (suc i) m j (omega arith))
 
--- the bands whose numbers pass
-abbrev pub asked : (ℕ → Bool) → List Band → List Band
-asked t bs = keep (λ b. t (b .number)) bs
+-- the bands whose numbers pass a test
+abbrev pub withNumber : (ℕ → Bool) → List Band → List Band
+withNumber t bs = keep (λ b. t (b .number)) bs
 
 -- a count of numbers of bands is a count of bands
-pub count-numbers : (t : ℕ → Bool) (f : Band → Bool) (bs : List Band) → countIf t (numbersWhere f bs) ≡ countIf f (asked t bs)
+pub count-numbers : (t : ℕ → Bool) (f : Band → Bool) (bs : List Band) → countIf t (numbersWhere f bs) ≡ countIf f (withNumber t bs)
 count-numbers t f [] = refl
 count-numbers t f (b ∷ bs) = go (f b) (t (b .number)) refl refl (count-numbers t f bs)
   where
-    go : (u v : Bool) → f b ≡ u → t (b .number) ≡ v → countIf t (numbersWhere f bs) ≡ countIf f (asked t bs)
-        → countIf t (addIf u (b .number) (numbersWhere f bs)) ≡ countIf f (addIf v b (asked t bs))
+    go : (u v : Bool) → f b ≡ u → t (b .number) ≡ v → countIf t (numbersWhere f bs) ≡ countIf f (withNumber t bs)
+        → countIf t (addIf u (b .number) (numbersWhere f bs)) ≡ countIf f (addIf v b (withNumber t bs))
     go true true p q e = rw (p, q, e)
     go true false p q e = rw (q, e) (omega arith)
     go false true p q e = rw (p, e) (omega arith)
@@ -56,16 +56,16 @@ count-numbers t f (b ∷ bs) = go (f b) (t (b .number)) refl refl (count-numbers
 
 -- the same where a test decides for all bands
 count-only : (t : ℕ → Bool) (o : Bool) (f : Band → Bool) (bs : List Band)
-    → countIf t (onlyIf o (numbersWhere f bs)) ≡ countIf (λ b. o and f b) (asked t bs)
+    → countIf t (onlyIf o (numbersWhere f bs)) ≡ countIf (λ b. o and f b) (withNumber t bs)
 unfolding _and_
 count-only t true f bs = count-numbers t f bs
-count-only t false f bs = sym (count-none (asked t bs) (λ b i. refl))
+count-only t false f bs = sym (count-none (withNumber t bs) (λ b i. refl))
 
 module _ (t : ℕ → Bool) (p : Profile) (k : ℕ) where
   -- the count of what is marked on edges of lane i that pass over k, edge by edge ..
   count-along : (i : ℕ) (es : List Edge)
       → countIf t (markedAlong p i (keep (λ e. passesOver e k) es))
-      ≡ sumOf (λ e. countIf (λ b. passesOver e k and edgeMarked (p .nodes) b i e) (asked t (p .bands))) es
+      ≡ sumOf (λ e. countIf (λ b. passesOver e k and edgeMarked (p .nodes) b i e) (withNumber t (p .bands))) es
   unfolding markedOnEdge
   count-along i [] = refl
   count-along i (e ∷ es) =
@@ -81,28 +81,28 @@ module _ (t : ℕ → Bool) (p : Profile) (k : ℕ) where
 
   -- .. and band by band
   count-in-lane : (i : ℕ)
-      → countIf t (markedAlong p i (edgesOver k i (p .nodes))) ≡ sumOf (λ b. timesOverIn (p .nodes) b k i) (asked t (p .bands))
+      → countIf t (markedAlong p i (edgesOver k i (p .nodes))) ≡ sumOf (λ b. timesOverIn (p .nodes) b k i) (withNumber t (p .bands))
   count-in-lane i =
       count-along i (edgesIn i (p .nodes))
-      ∙ count-by-rows-or-columns (λ e b. passesOver e k and edgeMarked (p .nodes) b i e) (edgesIn i (p .nodes)) (asked t (p .bands))
+      ∙ count-by-rows-or-columns (λ e b. passesOver e k and edgeMarked (p .nodes) b i e) (edgesIn i (p .nodes)) (withNumber t (p .bands))
 
   -- the count of what is marked on a node at k
-  count-on-node : countIf t (nodeTakes p k) ≡ sumOf (λ b. timesOnNode (p .nodes) b k) (asked t (p .bands))
+  count-on-node : countIf t (nodeTakes p k) ≡ sumOf (λ b. timesOnNode (p .nodes) b k) (withNumber t (p .bands))
   unfolding nodeTakes markedOnNode
   count-on-node =
       count-only t (standsAt k (p .nodes)) (λ b. nodeMarked (p .nodes) b k) (p .bands)
-      ∙ count-sum (λ b. standsAt k (p .nodes) and nodeMarked (p .nodes) b k) (asked t (p .bands))
+      ∙ count-sum (λ b. standsAt k (p .nodes) and nodeMarked (p .nodes) b k) (withNumber t (p .bands))
 
   -- the two together, of the lowest m lanes
   pub count-in-lanes : (m : ℕ)
       → countIf t (markedOver p k m)
-      ≡ sumOf (λ b. sumLanes (timesOverIn (p .nodes) b k) 0 m + timesOnNode (p .nodes) b k) (asked t (p .bands))
-  count-in-lanes zero = count-on-node ∙ sum-same (asked t (p .bands)) (λ b i. omega arith)
+      ≡ sumOf (λ b. sumLanes (timesOverIn (p .nodes) b k) 0 m + timesOnNode (p .nodes) b k) (withNumber t (p .bands))
+  count-in-lanes zero = count-on-node ∙ sum-same (withNumber t (p .bands)) (λ b i. omega arith)
   count-in-lanes (suc i) =
       count-append t (markedAlong p i (edgesOver k i (p .nodes))) (markedOver p k i)
       ∙ ap₂ (λ x y. x + y) (count-in-lane i) (count-in-lanes i)
-      ∙ sym (sum-plus (λ b. timesOverIn (p .nodes) b k i) lower (asked t (p .bands)))
-      ∙ sum-same (asked t (p .bands)) (λ b j. omega (arith, last-apart (timesOverIn (p .nodes) b k) 0 i i (omega arith)))
+      ∙ sym (sum-plus (λ b. timesOverIn (p .nodes) b k i) lower (withNumber t (p .bands)))
+      ∙ sum-same (withNumber t (p .bands)) (λ b j. omega (arith, last-apart (timesOverIn (p .nodes) b k) 0 i i (omega arith)))
     where
       lower : Band → ℕ
       lower b = sumLanes (timesOverIn (p .nodes) b k) 0 i + timesOnNode (p .nodes) b k
@@ -111,11 +111,11 @@ module _ (t : ℕ → Bool) (p : Profile) (k : ℕ) where
   pub marked-over-count : NodesRight p → countIf t (markedOver p k lanes) ≡ countIf t (numbersHolding (p .bands) k)
   marked-over-count right =
       count-in-lanes lanes
-      ∙ sum-same (asked t (p .bands)) once
-      ∙ sym (count-sum (λ b. holds b k) (asked t (p .bands)))
+      ∙ sum-same (withNumber t (p .bands)) once
+      ∙ sym (count-sum (λ b. holds b k) (withNumber t (p .bands)))
       ∙ sym (count-numbers t (λ b. holds b k) (p .bands))
     where
-      once : Each (λ b. timesOver (p .nodes) b k ≡ oneIf (holds b k)) (asked t (p .bands))
+      once : Each (λ b. timesOver (p .nodes) b k ≡ oneIf (holds b k)) (withNumber t (p .bands))
       once b i =
           let ends = right .ends-stand b (in-keep (λ c. t (c .number)) b (p .bands) .0 i .0) in
           over-once (p .nodes) b k (right .keys-ascend) (λ n j. right .levels-right n j .0) (ends .0) (ends .1)

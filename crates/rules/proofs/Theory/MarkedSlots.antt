@@ -14,11 +14,11 @@ use Rattle.rules.specs.Lists.{addIf, firstOf, countIf, sumLanes}
 use Rattle.rules.specs.HallLine.{Band}
 use Rattle.rules.specs.NodesLanesEdges.{Node, Edge, edgeOf, lanes, takesPart, laneOf, edgesAlong, edgesIn}
 use Rattle.rules.specs.Marks.{edgeMarked, nodeMarked, edgeMarksIn, marksOf}
-use Rattle.rules.specs.Staircase.{slotNumber, linkMarked, markedLinks, markedSlotsFrom, markedSlots}
+use Rattle.rules.specs.Staircase.{slotNumber, linkMarked, outMarked, markedLinks, markedSlotsFrom, markedSlots}
 use Rattle.rules.proofs.Means.{Means, reworded, itself, and-means}
 use Rattle.rules.proofs.Lists.{In, Some, Ascends, ascends-lower, in-addIf, in-append, SomeLane, some-lane-up, at-some-place}
 use Rattle.rules.proofs.NodesLanesEdges.{Asc, takes-part-means}
-use Rattle.rules.proofs.Theory.Links.{linkIn, first-link-means}
+use Rattle.rules.proofs.Theory.Links.{first-link-means}
 use Rattle.rules.proofs.Theory.EdgesOut.{LeadsOut, edge-out-of, edge-once}
 
 -- ---- ascending
@@ -34,7 +34,7 @@ module _ (ns : List Node) (b : Band) where
   unfolding slotNumber
   links-ascend j n rest ys d i zero l a = ascends-lower (λ s. s) (slotNumber j (suc i)) d ys (omega arith) a
   links-ascend j n rest ys d i (suc m) l a =
-      ascends-first (linkIn ns b n rest i) (slotNumber j (suc i)) (slotNumber j (suc (suc i))) (markedLinks ns b j n rest (suc i) m) ys
+      ascends-first (outMarked ns b n rest i) (slotNumber j (suc i)) (slotNumber j (suc (suc i))) (markedLinks ns b j n rest (suc i) m) ys
       (omega arith) (links-ascend j n rest ys d (suc i) m (omega arith) a)
 
   slots-ascend-from : (j : ℕ) (ms : List Node) → Ascends (λ s. s) (slotNumber j 0) (markedSlotsFrom ns b j ms)
@@ -77,7 +77,7 @@ module _ (ns : List Node) (b : Band) where
       omega (
         arith,
         first-edge i (n .key) (takesPart i n) (laneOf i rest),
-        length-add (linkIn ns b n rest i) (slotNumber j (suc i)) (markedLinks ns b j n rest (suc i) m),
+        length-add (outMarked ns b n rest i) (slotNumber j (suc i)) (markedLinks ns b j n rest (suc i) m),
         link-count j n rest (suc i) m,
       )
 
@@ -114,7 +114,7 @@ unfolding slotNumber
 slots-apart j k t u l m e = (omega arith, omega arith)
 
 module _ (ns : List Node) (b : Band) where
-  out-means : (i : ℕ) (n : Node) (rest : List Node) → Means (linkIn ns b n rest i) (SlotMarked ns b (n ∷ rest) (suc i))
+  out-means : (i : ℕ) (n : Node) (rest : List Node) → Means (outMarked ns b n rest i) (SlotMarked ns b (n ∷ rest) (suc i))
   out-means i n rest =
       reworded (and-means (takes-part-means i n) (first-link-means ns b i (n .key) (laneOf i rest)))
       (λ h. (h .0, h .1 .0, h .1 .1, h .1 .2)) (λ h. (h .0, (h .1, h .2, h .3)))
@@ -133,7 +133,7 @@ module _ (ns : List Node) (b : Band) where
   in-links : (s j : ℕ) (n : Node) (rest : List Node) (i m : ℕ) → In s (markedLinks ns b j n rest i m) ↔ Numbers s j (n ∷ rest) (suc i) m
   in-links s j n rest i zero = (λ h. absurd h, λ h. absurd (omega arith))
   in-links s j n rest i (suc m) =
-      first-slot s j (suc i) m (n ∷ rest) (linkIn ns b n rest i) _ (out-means i n rest) (in-links s j n rest (suc i) m)
+      first-slot s j (suc i) m (n ∷ rest) (outMarked ns b n rest i) _ (out-means i n rest) (in-links s j n rest (suc i) m)
 
   -- the slots listed are the marked slots of the places
   in-slots : (s : ℕ) → In s (markedSlots ns b) ↔ ((j : ℕ) × Numbers s j (drop j ns) 0 (suc lanes))

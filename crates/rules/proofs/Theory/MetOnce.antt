@@ -26,18 +26,22 @@ use Rattle.rules.proofs.Marks.{in-numbers, numbersHolding, length-of-nu
 use Rattle.rules.proofs.Flags.{flag-set-where-in, count-without-repeats, flags-by-members}
 use Rattle.rules.proofs.Theory.SearchReaches.{takes-marked-over}
 use Rattle.rules.proofs.Sums.{at-most-one, count-all, count-one, in-counted, distinct-by-counts}
-use Rattle.rules.proofs.Theory.MarkedOver.{NodesRight, standing-nodes-right, asked, count-numbers, count-in-lanes, marked-over-count}
+use Rattle.rules.proofs.Theory.MarkedOver.{NodesRight, standing-nodes-right, withNumber, count-numbers, count-in-lanes, marked-over-count}
 use Rattle.rules.proofs.SoundMemory.{Standing}
 
 -- of ascending bands those with one number are one or none
 one-numbered : (f : Band → Bool) (n : ℕ) (bs : List Band) → NumbersAsc 0 bs
-    → countIf f (asked (λ m. eqb m n) bs) ≡ oneIf (any f (asked (λ m. eqb m n) bs))
+    → countIf f (withNumber (λ m. eqb m n) bs) ≡ oneIf (any f (withNumber (λ m. eqb m n) bs))
 one-numbered f n bs a =
-    count-one (λ b. b .number) f 0 (asked (λ m. eqb m n) bs) (ascends-keep (λ b. b .number) (λ b. eqb (b .number) n) 0 bs a)
+    count-one (λ b. b .number) f 0 (withNumber (λ m. eqb m n) bs) (ascends-keep (λ b. b .number) (λ b. eqb (b .number) n) 0 bs a)
     (λ b c i j u v. numbered b i ∙ sym (numbered c j))
   where
-    numbered : Each (λ b. b .number ≡ n) (asked (λ m. eqb m n) bs)
+    numbered : Each (λ b. b .number ≡ n) (withNumber (λ m. eqb m n) bs)
     numbered b i = in-kept (λ c. eq-means (c .number) n) b bs .0 i .1
+
+-- a live band of number n holds the key
+abbrev pub HeldBy : Profile → ℕ → ℕ → Type 0
+HeldBy p k n = Some (λ b. (holds b k ≡ true) × (b .number ≡ n)) (p .bands)
 
 -- ---- what the search takes
 
@@ -54,7 +58,7 @@ module _ (p : Profile) (k : ℕ) where
       ∙ just-one
       ∙ over-once (p .nodes) b k a levels low high
     where
-      alone : asked (λ n. eqb n (b .number)) (p .bands) ≡ b ∷ []
+      alone : withNumber (λ n. eqb n (b .number)) (p .bands) ≡ b ∷ []
       alone =
           keep-one (λ c. c .number) (λ c. eqb (c .number) (b .number)) 0 (p .bands) numbers b i (eq-means (b .number) (b .number) .test refl)
           (λ c j e. eq-means (c .number) (b .number) .fact e)
@@ -83,7 +87,7 @@ module _ (p : Profile) (k : ℕ) where
         )
 
     -- the numbers taken are those of the bands that hold the key
-    pub taken-are-those-holding : (n : ℕ) → In n (taken p k) ↔ Some (λ b. (holds b k ≡ true) × (b .number ≡ n)) (p .bands)
+    pub taken-are-those-holding : (n : ℕ) → In n (taken p k) ↔ HeldBy p k n
     taken-are-those-holding n = Iff·trans (same-members n) (in-numbers (λ b. itself (holds b k)) n (p .bands))
 
     -- a stab's flags are those of the bands that hold the key ..
@@ -94,8 +98,7 @@ module _ (p : Profile) (k : ℕ) where
         (λ n l. same-means (member-means n (taken p k)) (member-means n (numbersHolding (p .bands) k)) (same-members n .0) (same-members n .1))
 
     -- .. each is set exactly where such a band has the number ..
-    pub flag-where-one-holds : (n : ℕ) → n < 1024
-        → (flagAt (stabOf p k .flags) n ≡ 1) ↔ Some (λ b. (holds b k ≡ true) × (b .number ≡ n)) (p .bands)
+    pub flag-where-one-holds : (n : ℕ) → n < 1024 → (flagAt (stabOf p k .flags) n ≡ 1) ↔ HeldBy p k n
     unfolding stabOf
     flag-where-one-holds n l = Iff·trans (flag-set-where-in (taken p k) n l) (taken-are-those-holding n)
 
@@ -106,7 +109,7 @@ module _ (p : Profile) (k : ℕ) where
 
   module _ (standing : Standing p) where
     -- of the marks taken one has the number, if a band with that number holds the key, else none
-    met-with-number : (n : ℕ) → countIf (λ m. eqb m n) (taken p k) ≡ oneIf (any (λ b. holds b k) (asked (λ m. eqb m n) (p .bands)))
+    met-with-number : (n : ℕ) → countIf (λ m. eqb m n) (taken p k) ≡ oneIf (any (λ b. holds b k) (withNumber (λ m. eqb m n) (p .bands)))
     met-with-number n =
         met-once (standing-nodes-right p standing) (λ m. eqb m n)
         ∙ count-numbers (λ m. eqb m n) (λ b. holds b k) (p .bands)
@@ -122,7 +125,7 @@ module _ (p : Profile) (k : ℕ) where
     pub none-met-twice : Distinct (taken p k)
     none-met-twice =
         distinct-by-counts (taken p k)
-        (λ n. omega (arith, met-with-number n, at-most-one (any (λ b. holds b k) (asked (λ m. eqb m n) (p .bands)))))
+        (λ n. omega (arith, met-with-number n, at-most-one (any (λ b. holds b k) (withNumber (λ m. eqb m n) (p .bands)))))
 
     -- marks met and the count are the same ..
     pub met-is-count : stabOf p k .met ≡ stabOf p k .count

@@ -10,14 +10,14 @@ use native.Mathlib.Omega.{arith}
 use Rattle.rules.specs.Connectives.{_and_, oneIf}
 use Rattle.rules.specs.Lists.{any, countIf, sumLanes}
 use Rattle.rules.specs.HallLine.{Band, holds}
-use Rattle.rules.specs.NodesLanesEdges.{Node, Edge, laneOf, edgesIn, lanes, inSomeLane, inSomeLaneAbove, standsAt}
+use Rattle.rules.specs.NodesLanesEdges.{Node, Edge, edgesIn, lanes, inSomeLane, inSomeLaneAbove, standsAt}
 use Rattle.rules.specs.Marks.{edgeMarked, passesOver, passedOverInLane, nodeMarked}
 use Rattle.rules.proofs.Means.{never, and-both, same-means, denied, not-means, and-means}
-use Rattle.rules.proofs.Lists.{In, Some, Each, any-means, lane-means, lane-fails}
+use Rattle.rules.proofs.Lists.{Some, Each, any-means, lane-means, lane-fails}
 use Rattle.rules.proofs.HallLine.{Past, Before, holds-means}
 use Rattle.rules.proofs.NodesLanesEdges.{Asc, NodeAt, in-lane, edges-ascend, stands-at-means}
 use Rattle.rules.proofs.Marks.{PassesOver, passes-over-means, passed-over-in-lane-means, edge-mark-rule}
-use Rattle.rules.proofs.Theory.EdgesNest.{nested, one-over, edge-over}
+use Rattle.rules.proofs.Theory.EdgesNest.{in-lane-zero, nested, one-over, edge-over}
 use Rattle.rules.proofs.Sums.{count-one, lanes-same, highest-once}
 
 -- how often the band is marked on the edges of lane i that pass over k
@@ -91,10 +91,6 @@ module _ (ns : List Node) (b : Band) (k : ℕ) (a : Asc 0 ns) where
       holds-means b k .test (inl (omega arith), inl (omega arith))
 
   module _ (levels : Each (λ n. 1 ≤ n .level) ns) (low : NodeAt (b .low) ns) (high : NodeAt (b .high) ns) where
-    -- lane 0 has every node
-    in-lane-zero : (x : ℕ) → NodeAt x ns → In x (laneOf 0 ns)
-    in-lane-zero x s = in-lane 0 x ns .1 (s .0, s .1, (levels (s .0) (s .1), s .2))
-
     -- a band that holds k, where no node stands, has an edge over k inside it, in lane 0 at least
     pub holds-then-over : standsAt k ns ≡ false → holds b k ≡ true → inSomeLane (passedOverInLane ns b k) ≡ true
     holds-then-over none h =
@@ -112,7 +108,7 @@ module _ (ns : List Node) (b : Band) (k : ℕ) (a : Asc 0 ns) where
 
         s : Some (λ e. PassesOver e k × (b .low ≤ e .from) × (e .to ≤ b .high)) (edgesIn 0 ns)
         s =
-            edge-over 0 ns a 0 (b .low) (b .high) k (in-lane-zero (b .low) low) (in-lane-zero (b .high) high)
+            edge-over 0 ns a 0 (b .low) (b .high) k (in-lane-zero (b .low) ns levels low) (in-lane-zero (b .high) ns levels high)
             (⊎-elim (λ l. l) (λ e. absurd (away (b .low) low (e .0))) (f .0))
             (⊎-elim (λ l. l) (λ e. absurd (away (b .high) high (e .0))) (f .1))
             (λ i. let n = in-lane 0 k ns .0 i in off (n .0, n .1, n .2 .1))

@@ -15,10 +15,10 @@ use Rattle.rules.specs.Marks.{passesOver, markedOnEdge}
 use Rattle.rules.specs.Search.{Here, header, on, Spot, spotOf, dropAmong, dropIn, dropTakes, takesFrom, start, taken, stepsOf}
 use Rattle.rules.proofs.Means.{denied, lt-means, lt-fails, at-most-or-above}
 use Rattle.rules.proofs.Lists.{In, Each, each-cons, in-kept, keep-none, keep-one, keep-again, keep-above-first, first-least, ascends-keep}
-use Rattle.rules.proofs.NodesLanesEdges.{takes-part-means, in-lane, Asc, lane-ascends, Joins, edge-rule, edges-ascend}
+use Rattle.rules.proofs.NodesLanesEdges.{takes-part-means, Asc, lane-ascends, Joins, edge-rule, edges-ascend}
 use Rattle.rules.proofs.Marks.{PassesOver, passes-over-means}
 use Rattle.rules.proofs.Search.{markedAlong, edgesOver, markedOver}
-use Rattle.rules.proofs.Theory.EdgesNest.{lane-falls, in-own-lane, joins, none-over-own, one-over}
+use Rattle.rules.proofs.Theory.EdgesNest.{lane-falls, in-own-lane, in-lane-from, joins, none-over-own, one-over}
 
 -- the nodes after the header are all, the nodes after the node at x those of greater key
 abbrev pub nodesAfter : Here → List Node → List Node
@@ -73,13 +73,7 @@ module _ (ns : List Node) where
 
   -- the keys of a lane after x are the lane's keys above x
   in-lane-after : (i x y : ℕ) → In y (laneOf i (nodesAfter (on x) ns)) ↔ (In y (laneOf i ns) × (x < y))
-  in-lane-after i x y = (
-    λ m. let s = in-lane i y (nodesAfter (on x) ns) .0 m in
-        let t = in-after x (s .0) .0 (s .1) in
-        (in-lane i y ns .1 (s .0, t .0, s .2), omega (arith, t .1, s .2 .1)),
-    λ h. let s = in-lane i y ns .0 (h .0) in
-        in-lane i y (nodesAfter (on x) ns) .1 (s .0, in-after x (s .0) .1 (s .1, omega (arith, h .1, s .2 .1)), s .2),
-  )
+  in-lane-after i x y = in-lane-from (suc x) ns (nodesAfter (on x) ns) (in-after x) i y
 
   -- what is so of a lane's keys after x is so of each key of the lane that is not at most x
   behind-or : (i x : ℕ) {P : ℕ → Type 0} → Each P (laneOf i (nodesAfter (on x) ns)) → Each (λ y. (y ≤ x) ⊎ P y) (laneOf i ns)
@@ -226,7 +220,8 @@ module _ (p : Profile) (k : ℕ) where
     pub reaches-last-below : (i : ℕ) → i < lanes → AtLastBelow i k (p .nodes) (dropSpot p k i)
     reaches-last-below i l = rw (drop-spot-follows i l) (descended-reaches (p .nodes) a k 0 (lanes - suc i) i)
 
-    takes-below : (m : ℕ) → m ≤ lanes → takesFrom p k m (dropSpot p k m) ≡ markedOver p k m
+    -- what it takes from a lane down, begun where the lane above was dropped, is what is marked over k from that lane down ..
+    pub takes-below : (m : ℕ) → m ≤ lanes → takesFrom p k m (dropSpot p k m) ≡ markedOver p k m
     takes-below zero l = refl
     takes-below (suc i) l =
         let at = dropSpot p k i in
@@ -236,7 +231,7 @@ module _ (p : Profile) (k : ℕ) where
         (drop-takes i (at .here) (laneOf i (at .ahead)) ∙ ap (markedAlong p i) (sym over))
         (takes-below i (omega arith)))
 
-    -- what the search takes is what is marked on the edges over k, and then on a node at k
+    -- .. so what the search takes is what is marked on the edges over k, and then on a node at k
     pub takes-marked-over : taken p k ≡ markedOver p k lanes
     unfolding taken
     takes-marked-over = takes-below lanes (omega arith)

@@ -2,7 +2,7 @@
 -- out of a stop that lies inside the band. A stair is marked and leads to a stop, and of what it overlaps nothing else is marked.
 -- Assumes nothing.
 use Prim.Native.Nat.{ℕ, _≤_, _<_}
-use mathlib.Core.Path.{_≡_, subst}
+use mathlib.Core.Path.{_≡_, refl, subst}
 use mathlib.Core.Bool.{true, false}
 use mathlib.Core.Logic.{_⊎_, ⊎-elim}
 use mathlib.Core.List.{List}
@@ -16,7 +16,7 @@ use Rattle.rules.proofs.Lists.{In, Each}
 use Rattle.rules.proofs.HallLine.{held-between}
 use Rattle.rules.proofs.NodesLanesEdges.{Asc, Level, NodeAt}
 use Rattle.rules.proofs.Marks.{Inside, Contains, PassesOver, edge-mark-rule, node-mark-rule}
-use Rattle.rules.proofs.Theory.EdgesNest.{in-own-lane, joins, nested, edge-between, none-over-own}
+use Rattle.rules.proofs.Theory.EdgesNest.{in-lane-zero, joins, nested, edge-between, none-over-own}
 
 module _ (ns : List Node) (b : Band) where
   -- a stop: no edge inside the band passes strictly over the key
@@ -69,13 +69,12 @@ module _ (ns : List Node) (b : Band) where
         → b .high ≤ n .key
     at-high levels top n m out = ⊎-elim (λ l. l) further (at-most-or-above (b .high) (n .key))
       where
-        lowest : (k : Node) → In k ns → In (k .key) (laneOf 0 ns)
-        lowest k i = in-own-lane 0 k ns i (levels k i .0)
+        lowest : (k : ℕ) → NodeAt k ns → In k (laneOf 0 ns)
+        lowest k = in-lane-zero k ns (λ t i. levels t i .0)
 
         further : n .key < b .high → b .high ≤ n .key
         further l =
-            let end = subst (λ k. In k (laneOf 0 ns)) (top .2) (lowest (top .0) (top .1)) in
-            let s = edge-between 0 ns a 0 (n .key) (b .high) (n .key) (lowest n m) end (omega arith) l in
+            let s = edge-between 0 ns a 0 (n .key) (b .high) (n .key) (lowest (n .key) (n, m, refl)) (lowest (b .high) top) (omega arith) l in
             let from : s .0 .from ≡ n .key = omega (arith, s .2) in
             let far = out 0 (omega arith) (s .0 .to) (subst (λ k. In (edgeOf k (s .0 .to)) (edgesIn 0 ns)) from (s .1)) in
             omega (arith, s .2)

@@ -10,8 +10,8 @@ use native.Mathlib.Omega.{arith}
 use Rattle.rules.specs.HallLine.{Band, highestKey, holds}
 use Rattle.rules.specs.NodesLanesEdges.{Node, Edge, laneOf, edgesIn}
 use Rattle.rules.specs.Marks.{edgeMarked, nodeMarked}
-use Rattle.rules.specs.Reach.{present, presentBoth, madeOrDropped, stretchOf}
-use Rattle.rules.proofs.Means.{passes-or-fails, same-test, denied, at-most-or-above}
+use Rattle.rules.specs.Reach.{presentBoth, madeOrDropped, stretchOf}
+use Rattle.rules.proofs.Means.{so-or-not, same-test, at-most-or-above}
 use Rattle.rules.proofs.Lists.{In, Some, Each}
 use Rattle.rules.proofs.HallLine.{held-between}
 use Rattle.rules.proofs.NodesLanesEdges.{NodeAt, in-lane, Asc, Joins, edge-rule}
@@ -37,18 +37,15 @@ sides before after a c l m = (
     ascends = a;
     on-line = l;
     has-both = λ n i. in-present-both before after n .0 i .0;
-    stands-or-touched = λ n i. ⊎-map (λ j. j) (λ off. in-made-or-dropped before after n .1 (inr (i, off))) (in-or-not n after);
+    stands-or-touched = λ n i. ⊎-map (λ j. j) (λ off. in-made-or-dropped before after n .1 (inr (i, off))) (so-or-not (present-means after n));
   },
   record {
     ascends = c;
     on-line = m;
     has-both = λ n i. in-present-both before after n .0 i .1;
-    stands-or-touched = λ n i. ⊎-map (λ j. j) (λ off. in-made-or-dropped before after n .1 (inl (i, off))) (in-or-not n before);
+    stands-or-touched = λ n i. ⊎-map (λ j. j) (λ off. in-made-or-dropped before after n .1 (inl (i, off))) (so-or-not (present-means before n));
   },
 )
-  where
-    in-or-not : (n : Node) (ns : List Node) → In n ns ⊎ (In n ns → ⊥)
-    in-or-not n ns = let m = present-means ns n in ⊎-map (m .fact) (denied m .fact) (passes-or-fails (present ns n))
 
 module _ (both touched : List Node) where
   -- the edge lies in no stretch of a touched node

@@ -2,12 +2,11 @@
 -- and gains none there. Insert and remove leave all bands but the call's, so they reach only stretches.
 -- Assumes nothing.
 use Prim.Native.Nat.{ℕ, _≤_}
-use mathlib.Core.Path.{_≡_, sym, subst}
+use mathlib.Core.Path.{_≡_, refl, sym, subst}
 use mathlib.Core.Bool.{Bool, true}
-use mathlib.Core.Logic.{_↔_, Iff·rfl, Iff·symm, _⊎_, ⊎-elim, ⊎-map}
+use mathlib.Core.Logic.{Iff·rfl, ⊎-elim, ⊎-map}
 use mathlib.Core.List.{List}
 use native.Mathlib.Omega.{arith}
-use lib.Dec.{eqb}
 use Rattle.rules.specs.HallLine.{Band, highestKey}
 use Rattle.rules.specs.NodesLanesEdges.{Node, Edge}
 use Rattle.rules.specs.Profile.{Profile}
@@ -15,9 +14,10 @@ use Rattle.rules.specs.Marks.{markedOnEdge, markedOnNode}
 use Rattle.rules.specs.Room.{Room}
 use Rattle.rules.specs.BoxSaysNo.{insertOutcome, removeOutcome}
 use Rattle.rules.specs.Reach.{presentBoth, madeOrDropped, reachesOnlyStretches}
-use Rattle.rules.proofs.Means.{passes-or-fails, denied, eq-means}
+use Rattle.rules.proofs.Means.{so-or-not, eq-means}
 use Rattle.rules.proofs.Lists.{In, Each, ascends-once}
 use Rattle.rules.proofs.NodesLanesEdges.{NodeAt}
+use Rattle.rules.proofs.Profile.{SameBut}
 use Rattle.rules.proofs.Marks.{node-mark-rule, in-marked-on-edge, in-marked-on-node}
 use Rattle.rules.proofs.Changes.{insert-keeps-others, remove-keeps-others}
 use Rattle.rules.proofs.BoxSaysNo.{insert-keeps, remove-keeps}
@@ -60,10 +60,6 @@ module _ (both touched : List Node) (p q : Profile) (after : Standing q)
             in-marked-on-node q number k .1 (b, j, (node-mark-stays both touched (p .nodes) (q .nodes) s o b k clear (t .2 .0), t .2 .1)),
           )
 
--- each band of another number is live in both profiles or in neither
-abbrev pub OthersSame : ℕ → Profile → Profile → Type 0
-OthersSame number p q = (b : Band) → (b .number ≡ number → ⊥) → In b (p .bands) ↔ In b (q .bands)
-
 module _ (p q : Profile) (before : Standing p) (after : Standing q) where
   -- a band that is live in both of two standing profiles keeps every mark outside the stretches, and gains none there
   pub same-band-keeps-marks : (b : Band) → In b (p .bands) → In b (q .bands)
@@ -79,16 +75,12 @@ module _ (p q : Profile) (before : Standing p) (after : Standing q) where
       only-one x y s k l c m e = subst (λ d. In d (y .bands)) (sym (ascends-once (λ d. d .number) 0 (x .bands) (s .numbers-ascend) c b m k e)) l
 
   -- where each band of another number is live in both or in neither, only stretches are reached
-  pub only-stretches-reached : (number : ℕ) → OthersSame number p q → reachesOnlyStretches number p q ≡ true
+  pub only-stretches-reached : (number : ℕ) → SameBut (λ b. b .number ≡ number) p q → reachesOnlyStretches number p q ≡ true
   only-stretches-reached number alike =
       reaches-only-stretches-means number p q .test (
-        λ b i. ⊎-map (λ e. e) (λ off. same-band-keeps-marks b i (alike b off .0 i) .0) (that-or-other b),
-        λ b j. ⊎-map (λ e. e) (λ off. same-band-keeps-marks b (alike b off .1 j) j .1) (that-or-other b),
+        λ b i. ⊎-map (λ e. e) (λ off. same-band-keeps-marks b i (alike b off .0 i) .0) (so-or-not (eq-means (b .number) number)),
+        λ b j. ⊎-map (λ e. e) (λ off. same-band-keeps-marks b (alike b off .1 j) j .1) (so-or-not (eq-means (b .number) number)),
       )
-    where
-      that-or-other : (b : Band) → (b .number ≡ number) ⊎ (b .number ≡ number → ⊥)
-      that-or-other b =
-          let m = eq-means (b .number) number in ⊎-map (m .fact) (denied m .fact) (passes-or-fails (eqb (b .number) number))
 
 module _ (sizesRight sound : Bool) (room : Room) (p : Profile) (s : Standing p) where
   -- an insert, accepted or refused, reaches only stretches
@@ -96,15 +88,15 @@ module _ (sizesRight sound : Bool) (room : Room) (p : Profile) (s : Standing p) 
       → reachesOnlyStretches (b .number) p (insertOutcome sizesRight sound room p b lo hi .profile) ≡ true
   insert-reaches-only-stretches b lo hi =
       only-stretches-reached p _ s (insert-keeps-standing sizesRight sound room p b lo hi s) (b .number)
-      (insert-keeps (OthersSame (b .number) p) sizesRight sound room p b lo hi
+      (insert-keeps (SameBut (λ c. c .number ≡ b .number) p) sizesRight sound room p b lo hi
       (λ c off. Iff·rfl)
-      (λ t c off. Iff·symm (insert-keeps-others p b lo hi c off)))
+      (λ t. insert-keeps-others p b lo hi (λ c. c .number ≡ b .number) refl))
 
   -- a remove, accepted or refused, reaches only stretches
   pub remove-reaches-only-stretches : (number scope : ℕ)
       → reachesOnlyStretches number p (removeOutcome sizesRight sound room p number scope .profile) ≡ true
   remove-reaches-only-stretches number scope =
       only-stretches-reached p _ s (remove-keeps-standing sizesRight sound room p number scope s) number
-      (remove-keeps (OthersSame number p) sizesRight sound room p number scope
+      (remove-keeps (SameBut (λ c. c .number ≡ number) p) sizesRight sound room p number scope
       (λ c off. Iff·rfl)
-      (λ t c off. Iff·symm (remove-keeps-others p number c off)))
+      (λ t. remove-keeps-others p number (λ c. c .number ≡ number) (λ c i e. e)))
