@@ -311,6 +311,29 @@ module _ {A : Type 0} (number : A → ℕ) where
   ascends-once c (z ∷ zs) a x y (inr i) (inl q) e = absurd (omega (arith, ap number q, ascends-from (suc (number z)) zs (a .1) x i))
   ascends-once c (z ∷ zs) a x y (inr i) (inr j) e = ascends-once (suc (number z)) zs (a .1) x y i j e
 
+  -- who is above the first stands after it
+  above-first : (x y : A) (xs : List A) → number x < number y → In y (x ∷ xs) → In y xs
+  above-first x y xs h (inl e) = absurd (omega (arith, ap number e))
+  above-first x y xs h (inr i) = i
+
+  -- two ascending lists with the same members are the same list
+  pub ascends-by-members : (c : ℕ) (xs ys : List A) → Ascends c xs → Ascends c ys → ((x : A) → In x xs ↔ In x ys) → xs ≡ ys
+  ascends-by-members c [] [] a b same = refl
+  ascends-by-members c [] (y ∷ ys) a b same = absurd (same y .1 (inl refl))
+  ascends-by-members c (x ∷ xs) [] a b same = absurd (same x .0 (inl refl))
+  ascends-by-members c (x ∷ xs) (y ∷ ys) a b same =
+      let x-in = same x .0 (inl refl) in
+      let y-least = ascends-from (number y) (y ∷ ys) (omega arith, b .1) x x-in in
+      let x-least = ascends-from (number x) (x ∷ xs) (omega arith, a .1) y (same y .1 (inl refl)) in
+      let first : x ≡ y = ascends-once c (y ∷ ys) b x y x-in (inl refl) (omega arith) in
+      let number-first = ap number first in
+      let b′ = subst (λ z. Ascends (suc (number z)) ys) (sym first) (b .1) in
+      let others = ascends-by-members (suc (number x)) xs ys (a .1) b′ (λ z. (
+        λ i. above-first y z ys (omega (arith, ascends-from (suc (number x)) xs (a .1) z i)) (same z .0 (inr i)),
+        λ i. above-first x z xs (ascends-from (suc (number x)) ys b′ z i) (same z .1 (inr i)),
+      )) in
+      λ i. first i ∷ others i
+
   pub ascends-keep : (f : A → Bool) (c : ℕ) (xs : List A) → Ascends c xs → Ascends c (keep f xs)
   ascends-keep f c [] a = tt
   ascends-keep f c (x ∷ xs) a = go (f x) (ascends-keep f (suc (number x)) xs (a .1))

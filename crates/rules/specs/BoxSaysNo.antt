@@ -209,27 +209,40 @@ pub record Answered (A : Type 0) : Type 0 where
   pub refusal : ℕ
   pub answer : A
 
+abbrev pub saying : {A : Type 0} → ℕ → A → Answered A
+saying refusal a = record { refusal = refusal; answer = a }
+
 -- a refused stab or readout answers zeros throughout beside its number
 abbrev pub answered : {A : Type 0} → ℕ → A → A → Answered A
-answered refusal zeros a = record { refusal = refusal; answer = cond (eqb refusal 0) a zeros }
+answered refusal zeros a = saying refusal (cond (eqb refusal 0) a zeros)
 
 abbrev pub noFlags : List ℕ
 noFlags = replicate flagWordCount 0
 
+-- zeros throughout, for each of them
+abbrev pub noStab : Stab
+noStab = record { flags = noFlags; count = 0; met = 0; looks = 0 }
+
+abbrev pub noEdgeRead : EdgeRead
+noEdgeRead = record { next = none; flags = noFlags }
+
+abbrev pub noNodeRead : NodeRead
+noNodeRead = record { level = 0; flags = noFlags }
+
+abbrev pub noRoomRead : RoomRead
+noRoomRead = record { nodes = 0; marks = 0 }
+
 unfoldable pub stabAnswer : Bool → Profile → ℕ → Answered Stab
-stabAnswer sizesRight p k =
-    answered (stabRefusal sizesRight k) (record { flags = noFlags; count = 0; met = 0; looks = 0 }) (stabOf p k)
+stabAnswer sizesRight p k = answered (stabRefusal sizesRight k) noStab (stabOf p k)
 
 unfoldable pub bandReadAnswer : Bool → Profile → ℕ → Answered BandRead
 bandReadAnswer sizesRight p number = answered (bandReadRefusal sizesRight p number) (bandReadOf none) (bandRead p number)
 
 unfoldable pub edgeReadAnswer : Bool → Profile → ℕ → ℕ → Answered EdgeRead
-edgeReadAnswer sizesRight p k i =
-    answered (edgeReadRefusal sizesRight p k i) (record { next = none; flags = noFlags }) (edgeRead p k i)
+edgeReadAnswer sizesRight p k i = answered (edgeReadRefusal sizesRight p k i) noEdgeRead (edgeRead p k i)
 
 unfoldable pub nodeReadAnswer : Bool → Profile → ℕ → Answered NodeRead
-nodeReadAnswer sizesRight p k =
-    answered (nodeReadRefusal sizesRight p k) (record { level = 0; flags = noFlags }) (nodeRead p k)
+nodeReadAnswer sizesRight p k = answered (nodeReadRefusal sizesRight p k) noNodeRead (nodeRead p k)
 
 unfoldable pub roomReadAnswer : Bool → Profile → Answered RoomRead
-roomReadAnswer sizesRight p = answered (roomReadRefusal sizesRight) (record { nodes = 0; marks = 0 }) (roomRead p)
+roomReadAnswer sizesRight p = answered (roomReadRefusal sizesRight) noRoomRead (roomRead p)

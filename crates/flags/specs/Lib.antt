@@ -1,0 +1,2 @@
+-- What setting and reading a flag does to the sixteen words.
+pub mod FlagWords

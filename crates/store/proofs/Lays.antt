@@ -1,0 +1,30 @@
+-- What node and mark words that lay a profile say at each place. A place is known by what follows it: the node of place j + 1 is n, with `rest`
+-- after it, when `drop j` of the nodes is `n ∷ rest`.
+-- Assumes nothing.
+use Prim.Native.Nat.{ℕ, suc, _≤_, _<_}
+use mathlib.Core.Path.{_≡_}
+use mathlib.Core.Bool.{cond}
+use mathlib.Core.List.{List, [], _∷_}
+use lib.ListN.{length, drop}
+use Rattle.rules.specs.NodesLanesEdges.{Node, lanes, takesPart}
+use Rattle.rules.specs.Profile.{Profile}
+use Rattle.rules.specs.Marks.{marksInUse}
+use Rattle.store.specs.Places.{nodeField, keyField, levelField, linkField, header, nodesInUseField, marksInUseField}
+use Rattle.store.specs.SaidMarks.{saidMarks}
+use Rattle.store.specs.LaidNodes.{nextPlace}
+use Rattle.store.specs.LaidMarks.{slotMarks}
+
+pub record Lays (p : Profile) (nodes marks : List ℕ) : Type 0 where
+  pub in-use : nodeField nodes header nodesInUseField ≡ length (p .nodes)
+  pub marks-in-use : nodeField nodes header marksInUseField ≡ marksInUse p
+  pub first-link : (i : ℕ) → i < lanes → nodeField nodes header (linkField i) ≡ nextPlace i 1 (p .nodes)
+  -- the header's links carry no marks
+  pub header-slot : (i : ℕ) → i < lanes → saidMarks nodes marks header (suc i) ≡ []
+  pub key : (j : ℕ) (n : Node) (rest : List Node) → drop j (p .nodes) ≡ n ∷ rest → nodeField nodes (suc j) keyField ≡ n .key
+  pub level : (j : ℕ) (n : Node) (rest : List Node) → drop j (p .nodes) ≡ n ∷ rest → nodeField nodes (suc j) levelField ≡ n .level
+  pub link :
+      (j : ℕ) (n : Node) (rest : List Node) → drop j (p .nodes) ≡ n ∷ rest → (i : ℕ) → i < lanes
+      → nodeField nodes (suc j) (linkField i) ≡ cond (takesPart i n) (nextPlace i (suc (suc j)) rest) 0
+  pub slot :
+      (j : ℕ) (n : Node) (rest : List Node) → drop j (p .nodes) ≡ n ∷ rest → (s : ℕ) → s ≤ lanes
+      → saidMarks nodes marks (suc j) s ≡ slotMarks p n rest s

@@ -1,0 +1,11 @@
+-- The lent memory as words: lengths and rooms, where each field stands, what words say, the one memory of a profile, and when memory is sound.
+pub mod Sizes
+pub mod Memory
+pub mod Places
+pub mod SaidProfile
+pub mod SaidMarks
+pub mod LaidBands
+pub mod LaidNodes
+pub mod LaidMarks
+pub mod LaidMemory
+pub mod Sound

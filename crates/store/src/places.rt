@@ -1,0 +1,65 @@
+// Where each field stands, and reading one: a word past the end of its slice reads as 0, so that any memory can be read.
+ghost use mathlib.Core.Path.{_≡_};
+ghost use Prim.Native.Nat.{_≤_, _<_, _^_};
+ghost use lib.ListN.{getD};
+ghost use Rattle.store.specs.Places.{bandField, nodeField};
+
+const BAND_PLACE: usize = 8;
+
+pub const NODE_PLACE: usize = 20;
+
+// A band place: whether the number is live, and the band's numbers.
+pub const LIVE: usize = 0;
+
+pub const SCOPE: usize = 1;
+
+pub const LOW: usize = 2;
+
+pub const HIGH: usize = 3;
+
+pub const LOW_CLOSED: usize = 4;
+
+pub const HIGH_CLOSED: usize = 5;
+
+// A node place: key, level, a link for each lane, and the fences between which the marks of each slot stand.
+pub const KEY: usize = 0;
+
+pub const LEVEL: usize = 1;
+
+pub const LINKS: usize = 2;
+
+pub const FENCES: usize = 10;
+
+// The header's place, and what stands there beside its links.
+pub const HEADER: usize = 0;
+
+pub const NODES_IN_USE: usize = 0;
+
+pub const MARKS_IN_USE: usize = 10;
+
+// A word of a slice.
+fn word(words: &[u32], at: usize) -> usize
+    ensures { λ r. ⌜ (r ≡ getD (now (words .entry)) at 0) × (r < 2 ^ 32) ⌝ }
+{
+    if at < words.len() {
+        words[at] as usize
+    } else {
+        0
+    }
+}
+
+// A field of a band's place.
+pub fn band_word(bands: &[u32], number: usize, field: usize) -> usize
+    requires { ⌜ (number < 2 ^ 32) × (field < 8) ⌝ }
+    ensures { λ r. ⌜ (r ≡ bandField (now (bands .entry)) number field) × (r < 2 ^ 32) ⌝ }
+{
+    word(bands, number * BAND_PLACE + field)
+}
+
+// A field of a node place; place 0 is the header's.
+pub fn node_word(nodes: &[u32], place: usize, field: usize) -> usize
+    requires { ⌜ (place < 2 ^ 32) × (field < 20) ⌝ }
+    ensures { λ r. ⌜ (r ≡ nodeField (now (nodes .entry)) place field) × (r < 2 ^ 32) ⌝ }
+{
+    word(nodes, place * NODE_PLACE + field)
+}
