@@ -10,15 +10,13 @@ use borrow.Author.Tests.{ltb-true, ltb-false, eq-eqb, ne-eqb}
 use lib.Dec.{eqb, ltb}
 use lib.ListN.{length, getD, set, length-set}
 use lib.Bits.{bitOr, or-step, or-zero-r}
-use lib.Count.{ones}
 use Rattle.rules.specs.Connectives.{_or_, oneIf}
-use Rattle.rules.specs.Lists.{member, sumOf}
-use Rattle.rules.specs.Flags.{flagCount, flagsOf, countOf, bitsFrom, wordsFrom}
-use Rattle.rules.specs.BoxSaysNo.{noFlags}
+use Rattle.rules.specs.Lists.{member}
+use Rattle.rules.specs.Flags.{flagCount, flagsOf, bitsFrom, wordsFrom}
 use Rattle.rules.proofs.Means.{same-means}
 use Rattle.rules.proofs.Lists.{member-means, in-middle}
 use Rattle.rules.proofs.Sums.{at-most-one}
-use Rattle.rules.proofs.Flags as rules
+use Rattle.rules.proofs.Flags.{flag-of-member, flags-by-members}
 use Rattle.flags.specs.FlagWords.{withFlag, withFlags, flagIsSet}
 
 -- a bit-wise or goes by the lowest bits and the rest
@@ -100,18 +98,15 @@ flag-added xs n = go (ltb n 1024) refl
         words-added (λ k. member k xs) n 0 16 (n / 64) (n % 64) (omega arith) (omega arith) (omega arith)
     go false e =
         let above = ltb-false n 1024 e in
-        rules.flags-by-members xs (n ∷ xs) (λ k h. sym (other-number (λ k. member k xs) n k (λ same. omega arith)))
+        flags-by-members xs (n ∷ xs) (λ k h. sym (other-number (λ k. member k xs) n k (λ same. omega arith)))
 
 -- the order in which flags are set does not count
 pub flags-added : (xs ms : List ℕ) → withFlags (flagsOf xs) ms ≡ flagsOf (xs ++ ms)
 flags-added xs [] = rw append-nil
 flags-added xs (m ∷ ms) =
     rw (flag-added xs m) (flags-added (m ∷ xs) ms)
-    ∙ rules.flags-by-members (m ∷ xs ++ ms) (xs ++ m ∷ ms) (λ n h.
+    ∙ flags-by-members (m ∷ xs ++ ms) (xs ++ m ∷ ms) (λ n h.
     let e = in-middle m n xs ms in same-means (member-means n (m ∷ xs ++ ms)) (member-means n (xs ++ m ∷ ms)) (e .1) (e .0))
-
-pub no-flags : flagsOf [] ≡ noFlags
-no-flags = rules.flags-of-none
 
 one-if-so : (t : Bool) → eqb (oneIf t) 1 ≡ t
 one-if-so true = refl
@@ -119,7 +114,7 @@ one-if-so false = refl
 
 pub flag-is-member : (xs : List ℕ) (n : ℕ) → n < flagCount → flagIsSet (flagsOf xs) n ≡ member n xs
 unfolding flagIsSet
-flag-is-member xs n h = rw (rules.flag-of-member xs n h) (one-if-so (member n xs))
+flag-is-member xs n h = rw (flag-of-member xs n h) (one-if-so (member n xs))
 
 pub flag-words-length : (ws : List ℕ) (n : ℕ) → length (withFlag ws n) ≡ length ws
 unfolding withFlag
@@ -128,9 +123,3 @@ flag-words-length ws n = go (ltb n 1024)
     go : (t : Bool) → length (cond t (set ws (n / 64) (bitOr (getD ws (n / 64) 0) (2 ^ (n % 64)))) ws) ≡ length ws
     go true = simp length-set
     go false = refl
-
-pub flags-length : (xs : List ℕ) → length (flagsOf xs) ≡ 16
-flags-length = rules.flags-length
-
-pub ones-are-count : (xs : List ℕ) → sumOf ones (flagsOf xs) ≡ countOf xs
-ones-are-count = rules.ones-of-flags

@@ -4,7 +4,7 @@
 use Prim.Native.Nat.{ℕ, zero, suc, _≤_, _<_}
 use mathlib.Core.Path.{_≡_, refl, sym, _∙_, subst}
 use mathlib.Core.Bool.{Bool, true, false, cond}
-use mathlib.Core.Logic.{_↔_, Iff·trans, _⊎_, inl, inr}
+use mathlib.Core.Logic.{_↔_, Iff·trans, _⊎_, inl, inr, ⊎-elim}
 use mathlib.Core.List.{List, [], _∷_, _++_}
 use native.Mathlib.Omega.{arith}
 use lib.ListN.{length}
@@ -15,11 +15,11 @@ use Rattle.rules.specs.Profile.{Profile, emptyProfile, isLive}
 use Rattle.rules.specs.Marks.{marksInUse}
 use Rattle.rules.specs.Changes.{inserted, removed}
 use Rattle.rules.specs.Room.{Room, roomInRange}
-use Rattle.rules.specs.BoxSaysNo.{TableLine, lowest, sizesWrong, notSound, scopeAbove, numberAbove, keyAbove, endAbove, holdsNone, endElsewhere, levelWrong, numberLive, numberNotLive, scopeOther, nodesExceed, marksExceed, noNode, noLane, bandLines, insertLines, removeLines, stabLines, bandReadLines, edgeReadLines, nodeReadLines, keyFault, bandFault, faultOf, insertRefusal, removeRefusal, emptyRefusal, stabRefusal, bandReadRefusal, edgeReadRefusal, nodeReadRefusal, roomReadRefusal, changed, emptyOutcome, insertOutcome, removeOutcome, answered}
+use Rattle.rules.specs.BoxSaysNo.{TableLine, lowest, sizesWrong, notSound, scopeAbove, numberAbove, keyAbove, endAbove, holdsNone, endElsewhere, levelWrong, numberLive, numberNotLive, scopeOther, nodesExceed, marksExceed, noNode, noLane, bandLines, insertLines, removeLines, stabLines, bandReadLines, edgeReadLines, nodeReadLines, keyFault, bandFault, faultOf, insertRefusal, removeRefusal, emptyRefusal, stabRefusal, bandReadRefusal, edgeReadRefusal, nodeReadRefusal, roomReadRefusal, changed, emptyOutcome, insertOutcome, removeOutcome, saying, answered}
 use Rattle.rules.proofs.Means.{Means, Fails, never, reworded, itself, denied, not-means, not-fails, and-means, and-fails, and3-means, or-means, or-fails, implies-fails, lt-means, lt-fails, le-means, le-fails, eq-means}
 use Rattle.rules.proofs.Lists.{Some, Each, some-cons, each-cons, any-means, any-fails}
 use Rattle.rules.proofs.HallLine.{Own, own-key-means, holds-whole-key-means}
-use Rattle.rules.proofs.NodesLanesEdges.{Level, is-level-means, NodeAt, stands-at-means}
+use Rattle.rules.proofs.NodesLanesEdges.{Level, is-level-means, NodeAt, NoNodeAt, stands-at-means}
 use Rattle.rules.proofs.Profile.{has-number-means, is-live-means}
 
 -- ---- each line
@@ -151,10 +151,24 @@ ordered-from : (c : ℕ) (ls : List TableLine) → Ordered c ls → Each (λ l. 
 ordered-from c [] o = λ l i. absurd i
 ordered-from c (l ∷ ls) o = each-cons l ls .1 (o .0, ordered-from c ls (ordered-lower c (l .refusal) ls (o .0) (o .1)))
 
+-- a number is given by a line of another number and what is given after it exactly when the line does not apply and the number is given after it
+pub line-other : {a : Bool} {n : ℕ} {X Y : Type 0} (r s : ℕ) → (r ≡ s → ⊥) → Fails a X → (n ≡ s) ↔ Y → (cond a r n ≡ s) ↔ (X × Y)
+line-other {a = true} r s h m e = (λ z. absurd (h z), λ p. never (sym (m .test (p .0))))
+line-other {a = false} r s h m e = (λ z. (m .fact refl, e .0 z), λ p. e .1 (p .1))
+
+-- .. and by a line of that number exactly when the line applies or the number is given after it
+pub line-own : {a : Bool} {n : ℕ} {X Y : Type 0} (r : ℕ) → Means a X → (n ≡ r) ↔ Y → (cond a r n ≡ r) ↔ (X ⊎ Y)
+line-own {a = true} r m e = (λ z. inl (m .fact refl), λ s. refl)
+line-own {a = false} r m e = (λ z. inr (e .0 z), ⊎-elim (λ x. never (m .test x)) (e .1))
+
+-- the same for the last line
+pub last-own : {a : Bool} {X : Type 0} (r : ℕ) → 0 < r → Means a X → (cond a r 0 ≡ r) ↔ X
+last-own {a = true} r h m = (λ z. m .fact refl, λ x. refl)
+last-own {a = false} r h m = (λ z. absurd (omega arith), λ x. never (m .test x))
+
 -- nothing is given by a line and what is given after it exactly when the line does not apply and nothing is given after it
 pub line-zero : {a : Bool} {n : ℕ} {X Y : Type 0} (r : ℕ) → 0 < r → Fails a X → (n ≡ 0) ↔ Y → (cond a r n ≡ 0) ↔ (X × Y)
-line-zero {a = true} r h m e = (λ z. absurd (omega arith), λ p. never (sym (m .test (p .0))))
-line-zero {a = false} r h m e = (λ z. (m .fact refl, e .0 z), λ p. e .1 (p .1))
+line-zero r h = line-other r 0 (λ e. omega arith)
 
 -- the same for the last line
 pub last-zero : {a : Bool} {X : Type 0} (r : ℕ) → 0 < r → Fails a X → (cond a r 0 ≡ 0) ↔ X
@@ -373,6 +387,31 @@ module _ (sizesRight : Bool) where
         (line-zero 13 (omega arith) (not-fails (stands-at-means k (p .nodes)))
         (last-zero 13 (omega arith) (not-fails (lt-means i (levelAt k (p .nodes)))))))
 
+    -- a band readout gives 9 exactly when sizes and number are right and the number is not live, ..
+    pub band-gives-9 : (n : ℕ)
+        → (bandReadRefusal sizesRight p n ≡ 9) ↔ ((sizesRight ≡ true) × ((n ≤ highestBandNumber) × Each (λ b. b .number ≡ n → ⊥) (p .bands)))
+    unfolding bandReadRefusal
+    band-gives-9 n =
+        line-other 1 9 (λ e. omega arith) (not-fails (itself sizesRight))
+        (line-other 3 9 (λ e. omega arith) (lt-fails highestBandNumber n) (last-own 9 (omega arith) (number-not-live-means p n)))
+
+    -- .. a node readout 13 when sizes and key are right and no node stands at the key, ..
+    pub node-gives-13 : (k : ℕ) → (nodeReadRefusal sizesRight p k ≡ 13) ↔ ((sizesRight ≡ true) × ((k ≤ highestKey) × NoNodeAt k (p .nodes)))
+    unfolding nodeReadRefusal
+    node-gives-13 k =
+        line-other 1 13 (λ e. omega arith) (not-fails (itself sizesRight))
+        (line-other 4 13 (λ e. omega arith) (lt-fails highestKey k) (last-own 13 (omega arith) (no-node-means p k)))
+
+    -- .. and an edge readout 13 when none stands there or the level there is not above the lane
+    pub edge-gives-13 : (k i : ℕ)
+        → (edgeReadRefusal sizesRight p k i ≡ 13)
+        ↔ ((sizesRight ≡ true) × ((k ≤ highestKey) × (NoNodeAt k (p .nodes) ⊎ (levelAt k (p .nodes) ≤ i))))
+    unfolding edgeReadRefusal
+    edge-gives-13 k i =
+        line-other 1 13 (λ e. omega arith) (not-fails (itself sizesRight))
+        (line-other 4 13 (λ e. omega arith) (lt-fails highestKey k)
+        (line-own 13 (no-node-means p k) (last-own 13 (omega arith) (no-lane-means p k i))))
+
 -- ---- what a call comes to
 
 -- an accepted change leaves the profile after it ..
@@ -383,13 +422,18 @@ accepted-changes refusal before after z = rw (eq-eqb refusal 0 z)
 pub refused-unchanged : (refusal : ℕ) (before after : Profile) → (refusal ≡ 0 → ⊥) → changed refusal before after .profile ≡ before
 refused-unchanged refusal before after h = rw (ne-eqb refusal 0 h)
 
--- a stab or readout that is not refused answers what is read ..
-pub accepted-answers : {A : Type 0} (refusal : ℕ) (zeros a : A) → refusal ≡ 0 → answered refusal zeros a .answer ≡ a
-accepted-answers refusal zeros a z = rw (eq-eqb refusal 0 z)
+-- a stab or readout that is not refused answers 0 and what is read ..
+pub accepted-answers : {A : Type 0} (refusal : ℕ) (zeros a : A) → refusal ≡ 0 → answered refusal zeros a ≡ saying 0 a
+accepted-answers refusal zeros a z = rw z
 
--- .. and a refused one zeros
-pub refused-zeros : {A : Type 0} (refusal : ℕ) (zeros a : A) → (refusal ≡ 0 → ⊥) → answered refusal zeros a .answer ≡ zeros
+-- .. and a refused one zeros beside its number
+pub refused-zeros : {A : Type 0} (refusal : ℕ) (zeros a : A) → (refusal ≡ 0 → ⊥) → answered refusal zeros a ≡ saying refusal zeros
 refused-zeros refusal zeros a h = rw (ne-eqb refusal 0 h)
+
+-- what is read matters only where nothing refuses
+pub same-answered : {A : Type 0} (refusal : ℕ) (zeros a b : A) → (refusal ≡ 0 → a ≡ b) → answered refusal zeros a ≡ answered refusal zeros b
+same-answered zero zeros a b h = rw (h refl)
+same-answered (suc r) zeros a b h = rw (ne-eqb (suc r) 0 (λ z. omega arith))
 
 -- what is so before a change, and after it where nothing refuses it, is so of what the change comes to
 pub change-keeps : (P : Profile → Type 0) (refusal : ℕ) (before after : Profile) → P before → (refusal ≡ 0 → P after)

@@ -238,6 +238,12 @@ module _ {A : Type 0} (X P : ℕ → List A → Type 0) (empty : (c : ℕ) → X
     λ s. from-place 0 (s .0) xs (subst (λ k. P k (drop (s .0) xs)) (omega arith) (s .1)),
   )
 
+-- what stands at a place stands in the list
+pub in-at-place : {A : Type 0} (j : ℕ) (xs : List A) {x : A} {rest : List A} → drop j xs ≡ x ∷ rest → In x xs
+in-at-place zero xs {x} at = subst (In x) (sym at) (inl refl)
+in-at-place (suc j) [] {x} at = subst (In x) (sym at) (inl refl)
+in-at-place (suc j) (y ∷ ys) at = inr (in-at-place j ys at)
+
 -- ---- lanes
 
 -- some lane is so, of the n lanes from lane i up

@@ -39,6 +39,13 @@ pub stands-at-means : (k : ℕ) (ns : List Node) → Means (standsAt k ns) (Node
 unfolding standsAt
 stands-at-means k ns = any-means (λ n. eq-means (n .key) k) ns
 
+-- no node stands at the key
+abbrev pub NoNodeAt : ℕ → List Node → Type 0
+NoNodeAt k ns = Each (λ n. n .key ≡ k → ⊥) ns
+
+pub node-or-none : (k : ℕ) (ns : List Node) → NodeAt k ns ⊎ NoNodeAt k ns
+node-or-none k ns = some-or-none (λ n. eq-means (n .key) k) ns
+
 -- the key is an end of the band
 abbrev pub EndOf : ℕ → Band → Type 0
 EndOf k b = (k ≡ b .low) ⊎ (k ≡ b .high)
@@ -161,14 +168,18 @@ pub level-nowhere : (k : ℕ) (ns : List Node) → Each (λ n. n .key ≡ k → 
 level-nowhere k [] h = refl
 level-nowhere k (n ∷ ns) h = rw (ne-eqb (n .key) k (h n (inl refl))) (level-nowhere k ns (λ m i. h m (inr i)))
 
+-- there is no such lane at a key exactly when no node stands there or the one that does has no such lane
+pub no-lane-rule : (k i c : ℕ) (ns : List Node) → Asc c ns
+    → (NoNodeAt k ns ⊎ (levelAt k ns ≤ i)) ↔ (NoNodeAt k ns ⊎ Some (λ n. (n .key ≡ k) × (n .level ≤ i)) ns)
+no-lane-rule k i c ns a = (
+  ⊎-elim inl (λ l. ⊎-elim (λ s. inr (s .0, s .1, (s .2, rw (level-at (s .0) (s .1) (s .2)) at l))) inl (node-or-none k ns)),
+  ⊎-map (λ h. h) (λ s. rw (level-at (s .0) (s .1) (s .2 .0)) (s .2 .1)),
+)
+  where
+    level-at : (n : Node) → In n ns → n .key ≡ k → levelAt k ns ≡ n .level
+    level-at n j e = rw (← e) (level-there c ns a n j)
+
 -- ---- a node made at a key
-
--- no node stands at the key
-abbrev pub NoNodeAt : ℕ → List Node → Type 0
-NoNodeAt k ns = Each (λ n. n .key ≡ k → ⊥) ns
-
-pub node-or-none : (k : ℕ) (ns : List Node) → NodeAt k ns ⊎ NoNodeAt k ns
-node-or-none k ns = some-or-none (λ n. eq-means (n .key) k) ns
 
 module _ (k l : ℕ) (ns : List Node) where
   -- where a node stands nothing is made ..

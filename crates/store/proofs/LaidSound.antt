@@ -1,13 +1,13 @@
 -- The memory laid for a profile that may soundly stand in a room is sound there and says that profile: so each such profile has its one sound memory.
 -- Assumes nothing.
-use mathlib.Core.Path.{_≡_, refl, sym, _∙_, ap, subst}
+use mathlib.Core.Path.{_≡_, sym, _∙_, ap, subst}
 use mathlib.Core.Bool.{true}
 use Rattle.rules.specs.Profile.{Profile, profileOf}
 use Rattle.rules.specs.Room.{Room, roomInRange}
 use Rattle.rules.specs.SoundMemory.{soundIn}
 use Rattle.rules.proofs.BoxSaysNo.{room-in-range-means}
-use Rattle.rules.proofs.SoundMemory.{Standing, Fitting, SoundIn, sound-in-means}
-use Rattle.store.specs.Sizes.{Lengths, lengthsOf, lengthsFor, roomFor, sizesRight}
+use Rattle.rules.proofs.SoundMemory.{SoundIn, sound-in-means}
+use Rattle.store.specs.Sizes.{lengthsOf, lengthsFor, roomFor, sizesRight}
 use Rattle.store.specs.Memory.{Memory, lengthsIn, roomIn}
 use Rattle.store.specs.SaidProfile.{saidProfile}
 use Rattle.store.specs.LaidMemory.{laidMemory}

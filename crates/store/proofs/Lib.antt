@@ -1,10 +1,23 @@
--- What holds of the lent memory as words, for every profile and room.
-pub mod Suffixes
-pub mod Padded
-pub mod WordByWord
+-- What holds of the lent memory as words, for every profile and room:
+--   RightSizes     which lengths are right, and which room they make
+--   Memory         two memories are the same
+--   SaidBands      the bands that any words say, place by place
+--   Between        the words from one index up to another
+--   Lays           what node and mark words that lay a profile say at each place
+--   LaidBands, LaidNodes, LaidMarks    the words of a profile, and that they say what was laid
+--   LaidLays       .. so they lay it
+--   LaidEmpty      the words of the empty profile
+--   Sound          sound memory, and that a profile and a room have one
+--   LaidSound      what is laid is sound
+--   MemoryExample  the example of docs/MEMORY.md
+-- Suffixes, Padded, WordByWord and PlaceWords have what these are proved with.
 pub mod RightSizes
 pub mod Memory
 pub mod SaidBands
+pub mod Between
+pub mod Suffixes
+pub mod Padded
+pub mod WordByWord
 pub mod Lays
 pub mod PlaceWords
 pub mod LaidBands
@@ -14,3 +27,4 @@ pub mod LaidLays
 pub mod LaidEmpty
 pub mod Sound
 pub mod LaidSound
+pub mod MemoryExample

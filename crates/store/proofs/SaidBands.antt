@@ -66,6 +66,11 @@ module _ (words : List ℕ) where
       let s = in-said-bands d .0 i in
       subst (λ n. saysLive n ≡ true) (sym (ap (λ x. x .number) (s .2 .1) ∙ said-number (s .0))) (s .2 .0)
 
+  -- .. so its number has a place
+  pub said-number-right : (d : Band) → In d (saidBands words) → d .number < bandPlaces
+  unfolding saidBand
+  said-number-right d i = let s = in-said-bands d .0 i in let e = ap (λ x. x .number) (s .2 .1) in omega arith
+
   module _ (b : ℕ) (h : b < bandPlaces) where
     live-is-in : saysLive b ≡ true → In (saidBand words b) (saidBands words)
     live-is-in e = in-said-bands (saidBand words b) .1 (b, h, (e, refl))

@@ -1,0 +1,32 @@
+-- The search and the finding over words.
+-- What the code is held against, step by step:
+--   TakenMarks     taking marks one by one
+--   NextNode       what the code reads of the next node, and its tests of it
+--   DescendSteps   finishing the search from here comes to the same after each step
+--   Searching      what holds in the midst of a search: the invariant of its loops
+--   PlaceSteps     going on through the places in use
+-- Where the words lay a profile, finding is the rules' own ..
+--   PlaceOnLaid    the place found is that of the node at the key
+--   LinkMarks      the marks of a link's slot are those of the edge there
+-- .. and so is the search, in the order in which the laws build on each other:
+--   Passed         nodes below a key that are passed, and those ahead
+--   NextInLane     the next node of a lane, as the links and as the paper's search know it
+--   LinksLead      tests of the key where a link leads
+--   Stands         where both searches stand alike: at the header, on a node
+--   DropOrStep     from there both drop the lane, or both step on
+--   AfterLaneZero  what both take after lane 0, and how many nodes are behind them then
+--   SearchOnLaid   so both come to the same
+pub mod TakenMarks
+pub mod NextNode
+pub mod DescendSteps
+pub mod Searching
+pub mod PlaceSteps
+pub mod PlaceOnLaid
+pub mod LinkMarks
+pub mod Passed
+pub mod NextInLane
+pub mod LinksLead
+pub mod Stands
+pub mod DropOrStep
+pub mod AfterLaneZero
+pub mod SearchOnLaid

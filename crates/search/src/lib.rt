@@ -1,0 +1,10 @@
+// The stab's search and the readouts' finding, over node and mark words of any memory.
+mod descent;
+mod finding;
+mod taking;
+
+pub use descent::Found;
+pub use descent::search;
+pub use finding::place_of;
+pub use taking::Taken;
+pub use taking::marked;
