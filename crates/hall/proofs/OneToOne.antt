@@ -3,11 +3,12 @@
 use mathlib.Core.Path.{_≡_, refl, sym, ap, _∙_}
 use mathlib.Core.Bool.{cond}
 use mathlib.Core.List.{List, [], _∷_}
+use mathlib.Core.Option.{Option, none, some}
 use Prim.Native.Nat.{ℕ}
 use native.Mathlib.Omega.{arith}
 use lib.Dec.{eqb}
 use lib.ListN.{getD}
-use Rattle.hall.specs.Says.{refusalSays, answerSays, MaybeKey, nextSays, madeSays}
+use Rattle.hall.specs.Says.{refusalSays, answerSays, MaybeKey, keySaid, nextSays, madeSays}
 use Rattle.hall.specs.declared.answers.Refusal.{Refusal}
 use Rattle.hall.specs.declared.answers.Answer.{Answer}
 use Rattle.hall.specs.declared.answers.Next.{Next}
@@ -79,6 +80,19 @@ next-found (Next.Key k) = refl
 
 pub next-one-to-one : (a b : Next) → nextSays a ≡ nextSays b → a ≡ b
 next-one-to-one = read-back nextSays nextOf next-found
+
+-- the same of the key that is said
+nextWith : Option ℕ → Next
+nextWith none = Next.None
+nextWith (some k) = Next.Key (record { 0 = k })
+
+next-told : (n : Next) → nextWith (keySaid (nextSays n)) ≡ n
+unfolding nextWith
+next-told Next.None = refl
+next-told (Next.Key k) = refl
+
+pub next-key-one-to-one : (a b : Next) → keySaid (nextSays a) ≡ keySaid (nextSays b) → a ≡ b
+next-key-one-to-one = read-back (λ n. keySaid (nextSays n)) nextWith next-told
 
 -- the value that says this, where one does
 madeOf : MaybeKey → Made

@@ -1,6 +1,9 @@
 -- What each case of an answer says: its number of the paper, and every value beside it. Every promise goes through these definitions.
 -- Assumes nothing.
 use Prim.Native.Nat.{ℕ}
+use mathlib.Core.Bool.{cond}
+use mathlib.Core.Option.{Option, none, some}
+use lib.Dec.{eqb}
 use Rattle.hall.specs.declared.answers.Refusal.{Refusal}
 use Rattle.hall.specs.declared.answers.Answer.{Answer}
 use Rattle.hall.specs.declared.answers.Next.{Next}
@@ -37,6 +40,10 @@ aKey k = record { given = 1; key = k }
 
 abbrev pub noKey : MaybeKey
 noKey = record { given = 0; key = 0 }
+
+-- the same as the rules have it: a key, or none
+abbrev pub keySaid : MaybeKey → Option ℕ
+keySaid m = cond (eqb (m .given) 0) none (some (m .key))
 
 -- the next node's key, or none
 abbrev pub nextSays : Next → MaybeKey

@@ -1,0 +1,6 @@
+// The bench card: a plain scan over band records for one key.
+mod fields;
+mod scanning;
+
+pub use fields::scan_fields;
+pub use scanning::Scan;

@@ -1,0 +1,43 @@
+-- The edge readout on any memory: 1 (sizes), 4, 13 where no place in use has the key or its node has no such lane, else the key of the node
+-- that the link leads to, and what is marked in the link's slot. No band word is read.
+-- Assumes nothing.
+use Prim.Native.Nat.{ℕ, suc}
+use mathlib.Core.Bool.{not, cond}
+use mathlib.Core.List.{List, [], _∷_}
+use mathlib.Core.Option.{Option, none, some}
+use lib.Dec.{ltb, eqb}
+use Rattle.rules.specs.Connectives.{_and_}
+use Rattle.rules.specs.NodesLanesEdges.{lanes}
+use Rattle.rules.specs.Flags.{flagsOf}
+use Rattle.rules.specs.Readouts.{EdgeRead}
+use Rattle.rules.specs.BoxSaysNo.{Answered, answered, lowest, TableLine, line, sizesWrong, keyAbove, noEdgeRead}
+use Rattle.store.specs.Sizes.{sizesRight}
+use Rattle.store.specs.Memory.{Memory, lengthsIn}
+use Rattle.store.specs.Places.{nodeField, keyField, levelField}
+use Rattle.store.specs.SaidMarks.{saidMarks}
+use Rattle.search.specs.Descent.{nextOf}
+use Rattle.search.specs.PlaceOf.{placeOf}
+
+-- 13: no node at the key
+abbrev pub noNodeIn : List ℕ → ℕ → TableLine
+noNodeIn nodes k = line 13 (eqb (placeOf nodes k) 0)
+
+-- 13: it has no such lane
+abbrev pub noLaneIn : List ℕ → ℕ → ℕ → TableLine
+noLaneIn nodes k lane = line 13 (not (ltb lane lanes and ltb lane (nodeField nodes (placeOf nodes k) levelField)))
+
+unfoldable pub edgeRefusalIn : Memory → ℕ → ℕ → ℕ
+edgeRefusalIn m k lane =
+    lowest (sizesWrong (sizesRight (lengthsIn m)) ∷ keyAbove k ∷ noNodeIn (m .nodes) k ∷ noLaneIn (m .nodes) k lane ∷ [])
+
+-- the key of the node at a place; none at place 0, to which a link leads that leads nowhere
+unfoldable pub keyAt : List ℕ → ℕ → Option ℕ
+keyAt nodes i = cond (eqb i 0) none (some (nodeField nodes i keyField))
+
+-- what is read of the link out of place i in a lane
+unfoldable pub edgeAt : List ℕ → List ℕ → ℕ → ℕ → EdgeRead
+edgeAt nodes marks i lane =
+    record { next = keyAt nodes (nextOf nodes i lane); flags = flagsOf (saidMarks nodes marks i (suc lane)) }
+
+unfoldable pub edgeIn : Memory → ℕ → ℕ → Answered EdgeRead
+edgeIn m k lane = answered (edgeRefusalIn m k lane) noEdgeRead (edgeAt (m .nodes) (m .marks) (placeOf (m .nodes) k) lane)

@@ -1,0 +1,8 @@
+-- What each public call answers and what memory it leaves, on every memory and every argument.
+pub mod Says
+pub mod EmptyCall
+pub mod StabCall
+pub mod BandCall
+pub mod EdgeCall
+pub mod NodeCall
+pub mod RoomCall

@@ -1,0 +1,44 @@
+-- What each answer of the calls says: the number of the paper, and the values beside it. Every promise goes through these definitions.
+-- Assumes nothing.
+use Prim.Native.Nat.{ℕ}
+use mathlib.Core.List.{List}
+use Rattle.rules.specs.Search.{Stab as RuledStab}
+use Rattle.rules.specs.Readouts.{BandRead as RuledBandRead, EdgeRead as RuledEdgeRead, NodeRead as RuledNodeRead, RoomRead as RuledRoomRead}
+use Rattle.rules.specs.BoxSaysNo.{Answered, saying}
+use Rattle.hall.specs.Says.{answerSays, keySaid, nextSays}
+use Rattle.hall.specs.declared.answers.Answer.{Answer}
+use Rattle.store.specs.Memory.{lent}
+use Rattle.profile.specs.EmptyCall.{Outcome}
+use Rattle.profile.specs.declared.stabbing.StabRead.{StabRead}
+use Rattle.profile.specs.declared.band_readout.BandRead.{BandRead}
+use Rattle.profile.specs.declared.edge_readout.EdgeRead.{EdgeRead}
+use Rattle.profile.specs.declared.node_readout.NodeRead.{NodeRead}
+use Rattle.profile.specs.declared.room_readout.RoomRead.{RoomRead}
+
+-- an answer, and the memory that the call leaves
+abbrev pub came : Answer → List ℕ → List ℕ → List ℕ → Outcome
+came a bands nodes marks = record { refusal = answerSays a; memory = lent bands nodes marks }
+
+abbrev pub stabSays : StabRead → Answered RuledStab
+stabSays s =
+    saying (answerSays (s .answer)) (record { flags = s .flags; count = s .count; met = s .met; looks = s .looks })
+
+abbrev pub bandReadSays : BandRead → Answered RuledBandRead
+bandReadSays b =
+    saying (answerSays (b .answer))
+    (record {
+      scope = b .scope;
+      low = b .low .0;
+      high = b .high .0;
+      lowClosed = b .«low_closed»;
+      highClosed = b .«high_closed»;
+    })
+
+abbrev pub edgeReadSays : EdgeRead → Answered RuledEdgeRead
+edgeReadSays e = saying (answerSays (e .answer)) (record { next = keySaid (nextSays (e .next)); flags = e .flags })
+
+abbrev pub nodeReadSays : NodeRead → Answered RuledNodeRead
+nodeReadSays n = saying (answerSays (n .answer)) (record { level = n .level; flags = n .flags })
+
+abbrev pub roomReadSays : RoomRead → Answered RuledRoomRead
+roomReadSays r = saying (answerSays (r .answer)) (record { nodes = r .nodes; marks = r .marks })
