@@ -1,5 +1,5 @@
 -- Making an empty profile, in plain words: in memory of right sizes, whatever it held, it leaves a sound memory of the same lengths that says
--- the empty profile; else it is refused by 1 and leaves all memory as it was.
+-- the empty profile. (In memory of wrong sizes it is refused by 1 and changes nothing: `empty-by-1` in CallLines.)
 -- Assumes nothing.
 use mathlib.Core.Path.{_≡_, refl, _∙_}
 use mathlib.Core.Bool.{true}
