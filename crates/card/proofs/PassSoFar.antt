@@ -14,7 +14,7 @@ use Rattle.rules.specs.BenchCard.{scanOf}
 use Rattle.rules.proofs.Connectives.{both}
 use Rattle.rules.proofs.Means.{and-both, and-false}
 use Rattle.card.specs.Pass.{Pass, beginOf, stepOf, passOver, toldOf}
-use Rattle.card.proofs.Pass.{pass-wrong, pass-is-scan}
+use Rattle.card.proofs.PassIsScan.{pass-wrong, pass-is-scan}
 
 -- where the loop goes on a record is left
 pub still-below : (i n : ℕ) (t : Bool) → ltb i n && t ≡ true → i < n

@@ -4,7 +4,7 @@ use mathlib.Core.Path.{_≡_, sym, ap, _∙_}
 use Rattle.rules.specs.BenchCard.{Scan as RuledScan}
 use Rattle.hall.proofs.OneToOne.{answer-one-to-one}
 use Rattle.card.specs.Says.{scanSays}
-use Rattle.card.specs.declared.scanning.Scan.{Scan}
+use Rattle.card.specs.declared.pass.Scan.{Scan}
 
 pub scan-settled : {said : RuledScan} (a b : Scan) → scanSays a ≡ said → scanSays b ≡ said → a ≡ b
 scan-settled a b e f =

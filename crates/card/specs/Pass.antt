@@ -1,5 +1,6 @@
 -- One pass over the card: the value it begins with, one step for each record, and what is told at its end.
--- Numbers seen and numbers held stand as flags. Assumes nothing.
+-- Numbers seen and numbers of records that hold the key stand as flags.
+-- Assumes nothing.
 use Prim.Native.Nat.{ℕ, _+_}
 use mathlib.Core.Bool.{cond}
 use mathlib.Core.List.{List, [], _∷_}
@@ -18,7 +19,7 @@ pub record Pass : Type 0 where
   pub seen : List ℕ
   pub flags : List ℕ
 
--- nothing is seen or held yet, or something is wrong: there flags are zero
+-- no number seen or held: at the start, and once something is wrong
 abbrev pub bare : ℕ → ℕ → Pass
 bare refusal place = record { refusal = refusal; place = place; seen = noFlags; flags = noFlags }
 

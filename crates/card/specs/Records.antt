@@ -1,10 +1,9 @@
 -- The card's records over parallel slices of numbers, one slice for each field: as many records as the shortest slice has.
 -- Assumes nothing.
 use Prim.Native.Nat.{ℕ, zero, suc, _+_, min}
-use mathlib.Core.Bool.{Bool, not}
 use mathlib.Core.List.{List, [], _∷_}
-use lib.Dec.{eqb}
 use lib.ListN.{length, getD}
+use Rattle.rules.specs.Connectives.{saysYes}
 use Rattle.rules.specs.HallLine.{Band, bandOf}
 
 pub record Fields : Type 0 where
@@ -20,11 +19,7 @@ abbrev pub lentFields : List ℕ → List ℕ → List ℕ → List ℕ → List
 lentFields ns ss ls hs lcs hcs =
     record { numbers = ns; scopes = ss; lows = ls; highs = hs; lowClosed = lcs; highClosed = hcs }
 
--- a closed word: open at 0, else closed
-abbrev pub isClosed : ℕ → Bool
-isClosed w = not (eqb w 0)
-
--- the record at index i
+-- the record at index i; a closed word is open at 0, else closed
 unfoldable pub recordAt : Fields → ℕ → Band
 recordAt f i =
     bandOf
@@ -32,8 +27,8 @@ recordAt f i =
     (getD (f .scopes) i 0)
     (getD (f .lows) i 0)
     (getD (f .highs) i 0)
-    (isClosed (getD (f .lowClosed) i 0))
-    (isClosed (getD (f .highClosed) i 0))
+    (saysYes (getD (f .lowClosed) i 0))
+    (saysYes (getD (f .highClosed) i 0))
 
 -- m records from index i on
 abbrev pub recordsFrom : Fields → ℕ → ℕ → List Band

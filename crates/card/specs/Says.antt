@@ -3,8 +3,8 @@
 use Rattle.rules.specs.BenchCard.{Scan as RuledScan}
 use Rattle.hall.specs.Says.{answerSays}
 use Rattle.card.specs.Pass.{Pass as RuledPass}
-use Rattle.card.specs.declared.scanning.Pass.{Pass}
-use Rattle.card.specs.declared.scanning.Scan.{Scan}
+use Rattle.card.specs.declared.pass.Pass.{Pass}
+use Rattle.card.specs.declared.pass.Scan.{Scan}
 
 abbrev pub passSays : Pass → RuledPass
 passSays p = record { refusal = answerSays (p .answer); place = p .place; seen = p .seen; flags = p .flags }

@@ -5,8 +5,8 @@ ghost use Rattle.rules.specs.BenchCard.{scanOf};
 ghost use Rattle.hall.specs.SaidBand.{said};
 ghost use Rattle.card.specs.Records.{lentFields, recordAt, recordsOf, shortest};
 ghost use Rattle.card.specs.Says.{scanSays};
-use crate::scanning::Pass;
-use crate::scanning::Scan;
+use crate::pass::Pass;
+use crate::pass::Scan;
 use hall::Band;
 use hall::Key;
 

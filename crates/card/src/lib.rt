@@ -1,6 +1,6 @@
 // The bench card: a plain scan over band records for one key.
 mod fields;
-mod scanning;
+mod pass;
 
 pub use fields::scan_fields;
-pub use scanning::Scan;
+pub use pass::Scan;

@@ -1,2 +1,2 @@
--- What setting and reading a flag does to the sixteen words.
+-- Setting a flag in the sixteen words, reading one, and counting those set.
 pub mod FlagWords

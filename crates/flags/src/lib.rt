@@ -2,7 +2,7 @@
 ghost use mathlib.Core.Path.{_≡_};
 ghost use Rattle.flags.specs.FlagWords.{withFlag, flagIsSet, Counted};
 
-pub const WORDS: usize = 16;
+const WORDS: usize = 16;
 
 const NUMBERS: u32 = 1024;
 

@@ -1,4 +1,5 @@
--- What each case of an answer says: its number of the paper, and every value beside it. Every promise goes through these definitions.
+-- What each case of an answer says: its number of the paper, and every value beside it. Every promise of an answer, a next node or a made key goes
+-- through these definitions.
 -- Assumes nothing.
 use Prim.Native.Nat.{ℕ}
 use mathlib.Core.Bool.{cond}

@@ -11,7 +11,7 @@ use Rattle.rules.specs.HallLine.{highestKey, highestBandNumber}
 use Rattle.rules.specs.NodesLanesEdges.{lanes}
 use Rattle.rules.specs.Profile.{emptyProfile}
 use Rattle.rules.specs.Readouts.{bandReadOf}
-use Rattle.rules.specs.BoxSaysNo.{saying, emptyRefusal, stabRefusal, roomReadRefusal, noStab, noEdgeRead, noNodeRead, noRoomRead}
+use Rattle.rules.specs.BoxSaysNo.{leaving, saying, emptyRefusal, stabRefusal, roomReadRefusal, noStab, noEdgeRead, noNodeRead, noRoomRead}
 use Rattle.store.specs.Sizes.{sizesRight}
 use Rattle.store.specs.Memory.{Memory, lengthsIn, roomIn}
 use Rattle.store.specs.Places.{bandField, liveField, nodeField, levelField}
@@ -24,11 +24,11 @@ use Rattle.profile.specs.StabCall.{stabFound, stabIn}
 use Rattle.profile.specs.BandCall.{bandRefusalIn, bandIn}
 use Rattle.profile.specs.EdgeCall.{edgeRefusalIn, edgeAt, edgeIn}
 use Rattle.profile.specs.NodeCall.{nodeRefusalIn, nodeAt, nodeIn}
-use Rattle.profile.specs.RoomCall.{saidRoom, roomReadIn}
+use Rattle.profile.specs.RoomCall.{saidUse, roomReadIn}
 
 -- 1: sizes are out of range
 module _ (m : Memory) (wrong : sizesRight (lengthsIn m) ≡ false) where
-  pub empty-by-1 : record { refusal = 1; memory = m } ≡ emptyIn m
+  pub empty-by-1 : leaving 1 m ≡ emptyIn m
   unfolding emptyIn emptyRefusal
   empty-by-1 = rw wrong
 
@@ -53,11 +53,11 @@ module _ (m : Memory) (wrong : sizesRight (lengthsIn m) ≡ false) where
   room-by-1 = rw wrong
 
 module _ (m : Memory) (right : sizesRight (lengthsIn m) ≡ true) where
-  pub emptied : record { refusal = 0; memory = laidMemory (roomIn m) emptyProfile } ≡ emptyIn m
+  pub emptied : leaving 0 (laidMemory (roomIn m) emptyProfile) ≡ emptyIn m
   unfolding emptyIn emptyRefusal
   emptied = rw right
 
-  pub room-read : saying 0 (saidRoom (m .nodes)) ≡ roomReadIn m
+  pub room-read : saying 0 (saidUse (m .nodes)) ≡ roomReadIn m
   unfolding roomReadIn roomReadRefusal
   room-read = rw right
 

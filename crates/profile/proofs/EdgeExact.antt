@@ -72,5 +72,5 @@ module _ (m : Memory) (s : sound m ≡ true) where
         ∙ accepted-answers (edgeReadRefusal true p (n .key) lane) noEdgeRead (edgeRead p (n .key) lane)
         (edge-accepted true p (n .key) lane .1 (refl, (nodes-on-line p stands n i, ((n, i, refl), below))))
 
-    pub edge-exact : (edgeIn m (n .key) lane .refusal ≡ 0) × ExactEdge (saidProfile m) (n .key) lane (edgeIn m (n .key) lane .answer)
+    pub edge-exact : (edgeIn m (n .key) lane .refusal ≡ 0) × ExactEdge (saidProfile m) (n .key) lane (edgeIn m (n .key) lane .read)
     edge-exact = rw accepted (refl, exact (saidProfile m) (said-stands m s) n i lane h)

@@ -4,7 +4,7 @@
 use mathlib.Core.Path.{_≡_, refl, _∙_}
 use mathlib.Core.Bool.{true}
 use Rattle.rules.specs.Profile.{emptyProfile}
-use Rattle.rules.specs.BoxSaysNo.{emptyRefusal}
+use Rattle.rules.specs.BoxSaysNo.{Change, emptyRefusal}
 use Rattle.rules.proofs.Theory.StandingKept.{empty-sound}
 use Rattle.store.specs.Sizes.{sizesRight}
 use Rattle.store.specs.Memory.{Memory, lengthsIn, roomIn}
@@ -12,18 +12,18 @@ use Rattle.store.specs.SaidProfile.{saidProfile}
 use Rattle.store.specs.Sound.{sound}
 use Rattle.store.proofs.RightSizes.{right-lengths}
 use Rattle.store.proofs.LaidSound.{laid-lengths, laid-says, laid-sound}
-use Rattle.profile.specs.EmptyCall.{Outcome, emptyIn}
+use Rattle.profile.specs.EmptyCall.{emptyIn}
 
 -- what making an empty profile in a memory comes to
-pub record EmptyMade (m : Memory) (o : Outcome) : Type 0 where
+pub record EmptyMade (m : Memory) (o : Change Memory) : Type 0 where
   -- it is accepted
   pub accepted : o .refusal ≡ 0
   -- an empty profile is sound
-  pub is-sound : sound (o .memory) ≡ true
+  pub is-sound : sound (o .after) ≡ true
   -- and has no live band and no node
-  pub is-empty : saidProfile (o .memory) ≡ emptyProfile
+  pub is-empty : saidProfile (o .after) ≡ emptyProfile
   -- the memory is as long as it was
-  pub same-lengths : lengthsIn (o .memory) ≡ lengthsIn m
+  pub same-lengths : lengthsIn (o .after) ≡ lengthsIn m
 
 module _ (m : Memory) where
   pub empty-makes : sizesRight (lengthsIn m) ≡ true → EmptyMade m (emptyIn m)

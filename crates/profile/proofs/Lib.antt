@@ -1,7 +1,7 @@
 -- What each public call comes to.
 -- On any memory:
 --   CallLines      what a call answers, from plain facts on memory and arguments: a law for each place where its code returns
---   EmptyMemory    the words that making an empty profile leaves
+--   EmptyWords     the words that making an empty profile leaves
 --   BandOnAny      the band readout is the rules' own on the bands that the words say
 --   Alike          stab, edge and node readout are the same where header, node and mark words are
 --   Settled        no second outcome meets a call's promise
@@ -13,7 +13,7 @@
 -- In plain words:
 --   EmptyExact, StabExact, BandExact, EdgeExact, NodeExact, RoomExact
 pub mod CallLines
-pub mod EmptyMemory
+pub mod EmptyWords
 pub mod BandOnAny
 pub mod Alike
 pub mod Settled

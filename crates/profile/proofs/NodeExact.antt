@@ -47,7 +47,7 @@ module _ (m : Memory) (s : sound m ≡ true) where
         ∙ accepted-answers (nodeReadRefusal true p (n .key)) noNodeRead (nodeRead p (n .key))
         (node-accepted true p (n .key) .1 (refl, (on-line, (n, i, refl))))
 
-    pub node-exact : (nodeIn m (n .key) .refusal ≡ 0) × ExactNode (saidProfile m) n (nodeIn m (n .key) .answer)
+    pub node-exact : (nodeIn m (n .key) .refusal ≡ 0) × ExactNode (saidProfile m) n (nodeIn m (n .key) .read)
     node-exact =
         let p = saidProfile m in
         rw accepted (refl, record { level = node-read-level p 0 (said-stands m s .keys-ascend) n i; flags = node-flag p (n .key) })

@@ -2,12 +2,12 @@
 -- Assumes nothing.
 use Prim.Native.Nat.{ℕ, suc, _≤_, _-_, _/_}
 use mathlib.Core.Path.{_≡_, sym, _∙_}
-use mathlib.Core.Bool.{Bool, not}
+use mathlib.Core.Bool.{Bool}
 use mathlib.Core.List.{List, _∷_}
 use native.Mathlib.Omega.{arith}
-use lib.Dec.{eqb}
 use lib.ListN.{length, drop}
 use borrow.Author.Tests.{ne-eqb}
+use Rattle.rules.specs.Connectives.{saysYes}
 use Rattle.rules.specs.NodesLanesEdges.{Node, standsAt, levelAt}
 use Rattle.rules.specs.Profile.{Profile}
 use Rattle.rules.specs.Readouts.{nodeRead}
@@ -25,10 +25,10 @@ use Rattle.search.specs.PlaceOf.{placeOf}
 use Rattle.search.proofs.PlaceOnLaid.{PlaceFound, nowhere, at-place, place-on-laid}
 use Rattle.profile.specs.NodeCall.{nodeRefusalIn, nodeAt, nodeIn}
 
--- no place is found exactly where no node stands
-none-found : {ns : List Node} {k place : ℕ} {stands : Bool} → PlaceFound ns k place stands → eqb place 0 ≡ not stands
-none-found (nowhere e s) = rw (e, s)
-none-found (at-place j n rest at f e s) = rw (e, s) (ne-eqb (suc j) 0 (λ z. omega arith))
+-- a place is found exactly where a node stands
+found-where : {ns : List Node} {k place : ℕ} {stands : Bool} → PlaceFound ns k place stands → saysYes place ≡ stands
+found-where (nowhere e s) = rw (e, s)
+found-where (at-place j n rest at f e s) = rw (e, s, ne-eqb (suc j) 0 (λ z. omega arith))
 
 -- the level at a node's key is the node's
 pub level-at-place : {p : Profile} → Standing p → (j : ℕ) (n : Node) (rest : List Node) → drop j (p .nodes) ≡ n ∷ rest
@@ -51,4 +51,4 @@ module _ (p : Profile) (m : Memory) (l : Lays p (m .nodes) (m .marks)) (s : Stan
   node-on-laid h k =
       let right : Bool = sizesRight (lengthsIn m) in
       let found = place-on-laid l k h in
-      rw (none-found found) (same-answered (nodeReadRefusal right p k) noNodeRead _ _ (node-found right k found))
+      rw (found-where found) (same-answered (nodeReadRefusal right p k) noNodeRead _ _ (node-found right k found))

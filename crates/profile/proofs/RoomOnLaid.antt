@@ -7,8 +7,8 @@ use Rattle.rules.specs.BoxSaysNo.{roomReadAnswer}
 use Rattle.store.specs.Sizes.{sizesRight}
 use Rattle.store.specs.Memory.{Memory, lengthsIn}
 use Rattle.store.proofs.Lays.{Lays}
-use Rattle.profile.specs.RoomCall.{saidRoom, roomReadIn}
+use Rattle.profile.specs.RoomCall.{saidUse, roomReadIn}
 
 pub room-on-laid : (p : Profile) (m : Memory) → Lays p (m .nodes) (m .marks) → roomReadIn m ≡ roomReadAnswer (sizesRight (lengthsIn m)) p
-unfolding roomReadIn saidRoom roomReadAnswer roomRead
+unfolding roomReadIn saidUse roomReadAnswer roomRead
 room-on-laid p m l = rw (l .in-use, l .marks-in-use)

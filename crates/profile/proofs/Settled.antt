@@ -5,10 +5,10 @@ use mathlib.Core.Path.{_≡_, sym, _∙_, ap}
 use mathlib.Core.List.{List}
 use Rattle.rules.specs.Search.{Stab}
 use Rattle.rules.specs.Readouts.{BandRead as RuledBandRead, EdgeRead as RuledEdgeRead, NodeRead as RuledNodeRead, RoomRead as RuledRoomRead}
-use Rattle.rules.specs.BoxSaysNo.{Answered}
+use Rattle.rules.specs.BoxSaysNo.{Change, Answered}
 use Rattle.hall.specs.declared.answers.Answer.{Answer}
 use Rattle.hall.proofs.OneToOne.{answer-one-to-one, next-key-one-to-one}
-use Rattle.profile.specs.EmptyCall.{Outcome}
+use Rattle.store.specs.Memory.{Memory}
 use Rattle.profile.specs.Says.{came, stabSays, bandReadSays, edgeReadSays, nodeReadSays, roomReadSays}
 use Rattle.profile.specs.declared.stabbing.StabRead.{StabRead}
 use Rattle.profile.specs.declared.band_readout.BandRead.{BandRead}
@@ -16,15 +16,15 @@ use Rattle.profile.specs.declared.edge_readout.EdgeRead.{EdgeRead}
 use Rattle.profile.specs.declared.node_readout.NodeRead.{NodeRead}
 use Rattle.profile.specs.declared.room_readout.RoomRead.{RoomRead}
 
-pub empty-settled : {said : Outcome} (a b : Answer) (bands nodes marks bands′ nodes′ marks′ : List ℕ)
+pub empty-settled : {said : Change Memory} (a b : Answer) (bands nodes marks bands′ nodes′ marks′ : List ℕ)
     → came a bands nodes marks ≡ said → came b bands′ nodes′ marks′ ≡ said
     → (a ≡ b) × (bands ≡ bands′) × (nodes ≡ nodes′) × (marks ≡ marks′)
 empty-settled a b bands nodes marks bands′ nodes′ marks′ e f =
     let same = e ∙ sym f in (
       answer-one-to-one a b (ap (λ o. o .refusal) same),
-      ap (λ o. o .memory .bands) same,
-      ap (λ o. o .memory .nodes) same,
-      ap (λ o. o .memory .marks) same,
+      ap (λ o. o .after .bands) same,
+      ap (λ o. o .after .nodes) same,
+      ap (λ o. o .after .marks) same,
     )
 
 pub stab-settled : {said : Answered Stab} (a b : StabRead) → stabSays a ≡ said → stabSays b ≡ said → a ≡ b
@@ -33,10 +33,10 @@ stab-settled a b e f =
     let answer = answer-one-to-one (a .answer) (b .answer) (ap (λ s. s .refusal) same) in
     λ i. record {
       answer = answer i;
-      flags = same i .answer .flags;
-      count = same i .answer .count;
-      met = same i .answer .met;
-      looks = same i .answer .looks;
+      flags = same i .read .flags;
+      count = same i .read .count;
+      met = same i .read .met;
+      looks = same i .read .looks;
     }
 
 pub band-settled : {said : Answered RuledBandRead} (a b : BandRead) → bandReadSays a ≡ said → bandReadSays b ≡ said → a ≡ b
@@ -45,28 +45,28 @@ band-settled a b e f =
     let answer = answer-one-to-one (a .answer) (b .answer) (ap (λ s. s .refusal) same) in
     λ i. record {
       answer = answer i;
-      scope = same i .answer .scope;
-      low = record { 0 = same i .answer .low };
-      high = record { 0 = same i .answer .high };
-      «low_closed» = same i .answer .lowClosed;
-      «high_closed» = same i .answer .highClosed;
+      scope = same i .read .scope;
+      low = record { 0 = same i .read .low };
+      high = record { 0 = same i .read .high };
+      «low_closed» = same i .read .lowClosed;
+      «high_closed» = same i .read .highClosed;
     }
 
 pub edge-settled : {said : Answered RuledEdgeRead} (a b : EdgeRead) → edgeReadSays a ≡ said → edgeReadSays b ≡ said → a ≡ b
 edge-settled a b e f =
     let same = e ∙ sym f in
     let answer = answer-one-to-one (a .answer) (b .answer) (ap (λ s. s .refusal) same) in
-    let next = next-key-one-to-one (a .next) (b .next) (ap (λ s. s .answer .next) same) in
-    λ i. record { answer = answer i; next = next i; flags = same i .answer .flags }
+    let next = next-key-one-to-one (a .next) (b .next) (ap (λ s. s .read .next) same) in
+    λ i. record { answer = answer i; next = next i; flags = same i .read .flags }
 
 pub node-settled : {said : Answered RuledNodeRead} (a b : NodeRead) → nodeReadSays a ≡ said → nodeReadSays b ≡ said → a ≡ b
 node-settled a b e f =
     let same = e ∙ sym f in
     let answer = answer-one-to-one (a .answer) (b .answer) (ap (λ s. s .refusal) same) in
-    λ i. record { answer = answer i; level = same i .answer .level; flags = same i .answer .flags }
+    λ i. record { answer = answer i; level = same i .read .level; flags = same i .read .flags }
 
 pub room-settled : {said : Answered RuledRoomRead} (a b : RoomRead) → roomReadSays a ≡ said → roomReadSays b ≡ said → a ≡ b
 room-settled a b e f =
     let same = e ∙ sym f in
     let answer = answer-one-to-one (a .answer) (b .answer) (ap (λ s. s .refusal) same) in
-    λ i. record { answer = answer i; nodes = same i .answer .nodes; marks = same i .answer .marks }
+    λ i. record { answer = answer i; nodes = same i .read .nodes; marks = same i .read .marks }

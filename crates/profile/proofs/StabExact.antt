@@ -48,5 +48,5 @@ module _ (m : Memory) (s : sound m ≡ true) (k : ℕ) (on-line : k ≤ highestK
   unfolding stabAnswer
   accepted = stab-on-sound m s k ∙ accepted-answers (stabRefusal true k) noStab (stabOf (saidProfile m) k) (stab-accepted true k .1 (refl, on-line))
 
-  pub stab-exact : (stabIn m k .refusal ≡ 0) × ExactStab (saidProfile m) k (stabIn m k .answer)
+  pub stab-exact : (stabIn m k .refusal ≡ 0) × ExactStab (saidProfile m) k (stabIn m k .read)
   stab-exact = rw accepted (refl, exact (saidProfile m) k (said-stands m s))

@@ -2,15 +2,15 @@
 -- that the link leads to, and what is marked in the link's slot. No band word is read.
 -- Assumes nothing.
 use Prim.Native.Nat.{ℕ, suc}
-use mathlib.Core.Bool.{not, cond}
-use mathlib.Core.List.{List, [], _∷_}
+use mathlib.Core.Bool.{Bool, cond}
+use mathlib.Core.List.{List}
 use mathlib.Core.Option.{Option, none, some}
 use lib.Dec.{ltb, eqb}
-use Rattle.rules.specs.Connectives.{_and_}
+use Rattle.rules.specs.Connectives.{_and_, saysYes}
 use Rattle.rules.specs.NodesLanesEdges.{lanes}
 use Rattle.rules.specs.Flags.{flagsOf}
 use Rattle.rules.specs.Readouts.{EdgeRead}
-use Rattle.rules.specs.BoxSaysNo.{Answered, answered, lowest, TableLine, line, sizesWrong, keyAbove, noEdgeRead}
+use Rattle.rules.specs.BoxSaysNo.{Answered, answered, lowest, edgeReadLines, noEdgeRead}
 use Rattle.store.specs.Sizes.{sizesRight}
 use Rattle.store.specs.Memory.{Memory, lengthsIn}
 use Rattle.store.specs.Places.{nodeField, keyField, levelField}
@@ -18,17 +18,19 @@ use Rattle.store.specs.SaidMarks.{saidMarks}
 use Rattle.search.specs.Descent.{nextOf}
 use Rattle.search.specs.PlaceOf.{placeOf}
 
--- 13: no node at the key
-abbrev pub noNodeIn : List ℕ → ℕ → TableLine
-noNodeIn nodes k = line 13 (eqb (placeOf nodes k) 0)
+-- the node at place i has the lane
+abbrev pub hasLane : List ℕ → ℕ → ℕ → Bool
+hasLane nodes i lane = ltb lane lanes and ltb lane (nodeField nodes i levelField)
 
--- 13: it has no such lane
-abbrev pub noLaneIn : List ℕ → ℕ → ℕ → TableLine
-noLaneIn nodes k lane = line 13 (not (ltb lane lanes and ltb lane (nodeField nodes (placeOf nodes k) levelField)))
-
+-- a node stands at the key where a place in use has it
 unfoldable pub edgeRefusalIn : Memory → ℕ → ℕ → ℕ
 edgeRefusalIn m k lane =
-    lowest (sizesWrong (sizesRight (lengthsIn m)) ∷ keyAbove k ∷ noNodeIn (m .nodes) k ∷ noLaneIn (m .nodes) k lane ∷ [])
+    lowest
+    (edgeReadLines
+    (sizesRight (lengthsIn m))
+    k
+    (saysYes (placeOf (m .nodes) k))
+    (hasLane (m .nodes) (placeOf (m .nodes) k) lane))
 
 -- the key of the node at a place; none at place 0, to which a link leads that leads nowhere
 unfoldable pub keyAt : List ℕ → ℕ → Option ℕ

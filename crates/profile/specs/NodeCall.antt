@@ -2,19 +2,20 @@
 -- marked in the node's own slot. No band word is read.
 -- Assumes nothing.
 use Prim.Native.Nat.{ℕ}
-use mathlib.Core.List.{List, [], _∷_}
+use mathlib.Core.List.{List}
+use Rattle.rules.specs.Connectives.{saysYes}
 use Rattle.rules.specs.Flags.{flagsOf}
 use Rattle.rules.specs.Readouts.{NodeRead}
-use Rattle.rules.specs.BoxSaysNo.{Answered, answered, lowest, sizesWrong, keyAbove, noNodeRead}
+use Rattle.rules.specs.BoxSaysNo.{Answered, answered, lowest, nodeReadLines, noNodeRead}
 use Rattle.store.specs.Sizes.{sizesRight}
 use Rattle.store.specs.Memory.{Memory, lengthsIn}
 use Rattle.store.specs.Places.{nodeField, levelField}
 use Rattle.store.specs.SaidMarks.{saidMarks}
 use Rattle.search.specs.PlaceOf.{placeOf}
-use Rattle.profile.specs.EdgeCall.{noNodeIn}
 
+-- a node stands at the key where a place in use has it
 unfoldable pub nodeRefusalIn : Memory → ℕ → ℕ
-nodeRefusalIn m k = lowest (sizesWrong (sizesRight (lengthsIn m)) ∷ keyAbove k ∷ noNodeIn (m .nodes) k ∷ [])
+nodeRefusalIn m k = lowest (nodeReadLines (sizesRight (lengthsIn m)) k (saysYes (placeOf (m .nodes) k)))
 
 -- what is read of the node at place i
 unfoldable pub nodeAt : List ℕ → List ℕ → ℕ → NodeRead

@@ -9,8 +9,8 @@ use Rattle.store.specs.Memory.{Memory, lengthsIn}
 use Rattle.store.specs.Places.{nodeField, header, nodesInUseField, marksInUseField}
 
 -- what the header says
-unfoldable pub saidRoom : List ℕ → RoomRead
-saidRoom nodes = record { nodes = nodeField nodes header nodesInUseField; marks = nodeField nodes header marksInUseField }
+unfoldable pub saidUse : List ℕ → RoomRead
+saidUse nodes = record { nodes = nodeField nodes header nodesInUseField; marks = nodeField nodes header marksInUseField }
 
 unfoldable pub roomReadIn : Memory → Answered RoomRead
-roomReadIn m = answered (roomReadRefusal (sizesRight (lengthsIn m))) noRoomRead (saidRoom (m .nodes))
+roomReadIn m = answered (roomReadRefusal (sizesRight (lengthsIn m))) noRoomRead (saidUse (m .nodes))

@@ -1,14 +1,13 @@
--- What each answer of the calls says: the number of the paper, and the values beside it. Every promise goes through these definitions.
+-- What each answer of the calls says: the number of the paper, and the values beside it. The promise of each call goes through these definitions.
 -- Assumes nothing.
 use Prim.Native.Nat.{ℕ}
 use mathlib.Core.List.{List}
 use Rattle.rules.specs.Search.{Stab as RuledStab}
 use Rattle.rules.specs.Readouts.{BandRead as RuledBandRead, EdgeRead as RuledEdgeRead, NodeRead as RuledNodeRead, RoomRead as RuledRoomRead}
-use Rattle.rules.specs.BoxSaysNo.{Answered, saying}
+use Rattle.rules.specs.BoxSaysNo.{Change, leaving, Answered, saying}
 use Rattle.hall.specs.Says.{answerSays, keySaid, nextSays}
 use Rattle.hall.specs.declared.answers.Answer.{Answer}
-use Rattle.store.specs.Memory.{lent}
-use Rattle.profile.specs.EmptyCall.{Outcome}
+use Rattle.store.specs.Memory.{Memory, lent}
 use Rattle.profile.specs.declared.stabbing.StabRead.{StabRead}
 use Rattle.profile.specs.declared.band_readout.BandRead.{BandRead}
 use Rattle.profile.specs.declared.edge_readout.EdgeRead.{EdgeRead}
@@ -16,8 +15,8 @@ use Rattle.profile.specs.declared.node_readout.NodeRead.{NodeRead}
 use Rattle.profile.specs.declared.room_readout.RoomRead.{RoomRead}
 
 -- an answer, and the memory that the call leaves
-abbrev pub came : Answer → List ℕ → List ℕ → List ℕ → Outcome
-came a bands nodes marks = record { refusal = answerSays a; memory = lent bands nodes marks }
+abbrev pub came : Answer → List ℕ → List ℕ → List ℕ → Change Memory
+came a bands nodes marks = leaving (answerSays a) (lent bands nodes marks)
 
 abbrev pub stabSays : StabRead → Answered RuledStab
 stabSays s =

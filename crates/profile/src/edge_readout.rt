@@ -18,8 +18,6 @@ pub struct EdgeRead {
     pub flags: [u64; 16],
 }
 
-const LANES: usize = 8;
-
 // The edge out of the node at a key in a lane. Of the bands only the length is looked at.
 pub fn edge(bands: &[u32], nodes: &[u32], marks: &[u32], key: Key, lane: u32) -> EdgeRead
     ensures { λ r. ⌜ edgeReadSays r ≡ edgeIn (lent (now (bands .entry)) (now (nodes .entry)) (now (marks .entry))) (key .0) lane ⌝ }
@@ -30,12 +28,12 @@ pub fn edge(bands: &[u32], nodes: &[u32], marks: &[u32], key: Key, lane: u32) ->
     if Key::HIGHEST.0 < key.0 {
         return refused(Refusal::KeyAbove);
     }
-    let place = search::place_of(nodes, key.0);
+    let place = search::place_of(nodes, key);
     if place == 0 {
         return refused(Refusal::NoNodeOrLane);
     }
     let i = lane as usize;
-    let lane_there = (i < LANES) & (i < store::node_word(nodes, place, store::LEVEL));
+    let lane_there = (i < store::LANES) & (i < store::node_word(nodes, place, store::LEVEL));
     if !lane_there {
         return refused(Refusal::NoNodeOrLane);
     }

@@ -7,11 +7,6 @@ ghost use Rattle.profile.specs.Says.{came};
 use hall::Answer;
 use hall::Refusal;
 
-// Where in the header the number of lanes stands, and that number.
-const LANE_COUNT: usize = 1;
-
-const LANES: u32 = 8;
-
 // Whatever the memory held, it is that of the empty profile afterwards; memory of wrong sizes is left as it was.
 pub fn empty(bands: &mut [u32], nodes: &mut [u32], marks: &mut [u32]) -> Answer
     ensures { λ r. ⌜
@@ -25,7 +20,7 @@ pub fn empty(bands: &mut [u32], nodes: &mut [u32], marks: &mut [u32]) -> Answer
     clear(bands);
     clear(nodes);
     clear(marks);
-    nodes[LANE_COUNT] = LANES;
+    nodes[store::LANE_COUNT] = store::LANES as u32;
     Answer::Done
 }
 

@@ -26,7 +26,7 @@ pub fn node(bands: &[u32], nodes: &[u32], marks: &[u32], key: Key) -> NodeRead
     if Key::HIGHEST.0 < key.0 {
         return refused(Refusal::KeyAbove);
     }
-    let place = search::place_of(nodes, key.0);
+    let place = search::place_of(nodes, key);
     if place == 0 {
         return refused(Refusal::NoNodeOrLane);
     }

@@ -9,7 +9,8 @@ use hall::Answer;
 use hall::Key;
 use hall::Refusal;
 
-// Flags and count of the bands that hold the key, marks met and looks; zeros throughout beside a refusal.
+// Flags and count of the marks met, how many those were, and the looks; zeros throughout beside a refusal. On sound memory the flags are those
+// of the bands that hold the key.
 pub struct StabRead {
     pub answer: Answer,
     pub flags: [u64; 16],
@@ -28,7 +29,7 @@ pub fn stab(bands: &[u32], nodes: &[u32], marks: &[u32], key: Key) -> StabRead
     if Key::HIGHEST.0 < key.0 {
         return refused(Refusal::KeyAbove);
     }
-    let found = search::search(nodes, marks, key.0);
+    let found = search::search(nodes, marks, key);
     let taken = found.taken;
     let flags = taken.flags;
     StabRead {

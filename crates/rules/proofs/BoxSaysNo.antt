@@ -7,6 +7,7 @@ use mathlib.Core.Bool.{Bool, true, false, cond}
 use mathlib.Core.Logic.{_↔_, Iff·trans, _⊎_, inl, inr, ⊎-elim}
 use mathlib.Core.List.{List, [], _∷_, _++_}
 use native.Mathlib.Omega.{arith}
+use lib.Dec.{ltb}
 use lib.ListN.{length}
 use borrow.Author.Tests.{eq-eqb, ne-eqb}
 use Rattle.rules.specs.HallLine.{Band, machines, isMachine, highestKey, highestBandNumber, house, holds, holdsWholeKey, withinScope}
@@ -15,7 +16,7 @@ use Rattle.rules.specs.Profile.{Profile, emptyProfile, isLive}
 use Rattle.rules.specs.Marks.{marksInUse}
 use Rattle.rules.specs.Changes.{inserted, removed}
 use Rattle.rules.specs.Room.{Room, roomInRange}
-use Rattle.rules.specs.BoxSaysNo.{TableLine, lowest, sizesWrong, notSound, scopeAbove, numberAbove, keyAbove, endAbove, holdsNone, endElsewhere, levelWrong, numberLive, numberNotLive, scopeOther, nodesExceed, marksExceed, noNode, noLane, bandLines, insertLines, removeLines, stabLines, bandReadLines, edgeReadLines, nodeReadLines, keyFault, bandFault, faultOf, insertRefusal, removeRefusal, emptyRefusal, stabRefusal, bandReadRefusal, edgeReadRefusal, nodeReadRefusal, roomReadRefusal, changed, emptyOutcome, insertOutcome, removeOutcome, saying, answered}
+use Rattle.rules.specs.BoxSaysNo.{TableLine, lowest, sizesWrong, notSound, scopeAbove, numberAbove, keyAbove, endAbove, holdsNone, endElsewhere, levelWrong, numberLive, numberNotLive, scopeOther, nodesExceed, marksExceed, notThere, bandLines, insertLines, removeLines, stabLines, bandReadLines, edgeReadLines, nodeReadLines, keyFault, bandFault, faultOf, insertRefusal, removeRefusal, emptyRefusal, stabRefusal, bandReadRefusal, edgeReadRefusal, nodeReadRefusal, roomReadRefusal, changed, emptyOutcome, insertOutcome, removeOutcome, saying, answered}
 use Rattle.rules.proofs.Means.{Means, Fails, never, reworded, itself, denied, not-means, not-fails, and-means, and-fails, and3-means, or-means, or-fails, implies-fails, lt-means, lt-fails, le-means, le-fails, eq-means}
 use Rattle.rules.proofs.Lists.{Some, Each, some-cons, each-cons, any-means, any-fails}
 use Rattle.rules.proofs.HallLine.{Own, own-key-means, holds-whole-key-means}
@@ -93,11 +94,11 @@ module _ (p : Profile) where
   scope-other-means n s = any-means (λ b. and-means (has-number-means n b) (not-means (denied (eq-means (b .scope) s)))) (p .bands)
 
   -- 13
-  pub no-node-means : (k : ℕ) → Means (noNode p k .applies) (Each (λ n. n .key ≡ k → ⊥) (p .nodes))
+  pub no-node-means : (k : ℕ) → Means (notThere (standsAt k (p .nodes)) .applies) (Each (λ n. n .key ≡ k → ⊥) (p .nodes))
   unfolding standsAt
   no-node-means k = not-means (any-fails (λ n. denied (eq-means (n .key) k)) (p .nodes))
 
-  pub no-lane-means : (k i : ℕ) → Means (noLane p k i .applies) (levelAt k (p .nodes) ≤ i)
+  pub no-lane-means : (k i : ℕ) → Means (notThere (ltb i (levelAt k (p .nodes))) .applies) (levelAt k (p .nodes) ≤ i)
   no-lane-means k i = not-means (lt-fails i (levelAt k (p .nodes)))
 
 module _ (room : Room) (after : Profile) where
@@ -218,18 +219,18 @@ module _ (sizesRight sound : Bool) (room : Room) (p : Profile) where
   pub remove-ordered : (number scope : ℕ) → Ordered 1 (removeLines sizesRight sound room p number scope)
   remove-ordered number scope = omega arith
 
-module _ (sizesRight : Bool) (p : Profile) where
+module _ (sizesRight : Bool) where
   pub stab-ordered : (k : ℕ) → Ordered 1 (stabLines sizesRight k)
   stab-ordered k = omega arith
 
-  pub band-ordered : (n : ℕ) → Ordered 1 (bandReadLines sizesRight p n)
-  band-ordered n = omega arith
+  pub band-ordered : (n : ℕ) (live : Bool) → Ordered 1 (bandReadLines sizesRight n live)
+  band-ordered n live = omega arith
 
-  pub edge-ordered : (k i : ℕ) → Ordered 1 (edgeReadLines sizesRight p k i)
-  edge-ordered k i = omega arith
+  pub edge-ordered : (k : ℕ) (stands hasLane : Bool) → Ordered 1 (edgeReadLines sizesRight k stands hasLane)
+  edge-ordered k stands hasLane = omega arith
 
-  pub node-ordered : (k : ℕ) → Ordered 1 (nodeReadLines sizesRight p k)
-  node-ordered k = omega arith
+  pub node-ordered : (k : ℕ) (stands : Bool) → Ordered 1 (nodeReadLines sizesRight k stands)
+  node-ordered k stands = omega arith
 
 -- ---- what nothing refuses
 
@@ -415,11 +416,11 @@ module _ (sizesRight : Bool) where
 -- ---- what a call comes to
 
 -- an accepted change leaves the profile after it ..
-pub accepted-changes : (refusal : ℕ) (before after : Profile) → refusal ≡ 0 → changed refusal before after .profile ≡ after
+pub accepted-changes : {A : Type 0} (refusal : ℕ) (before after : A) → refusal ≡ 0 → changed refusal before after .after ≡ after
 accepted-changes refusal before after z = rw (eq-eqb refusal 0 z)
 
 -- .. and a refused one all as it was
-pub refused-unchanged : (refusal : ℕ) (before after : Profile) → (refusal ≡ 0 → ⊥) → changed refusal before after .profile ≡ before
+pub refused-unchanged : {A : Type 0} (refusal : ℕ) (before after : A) → (refusal ≡ 0 → ⊥) → changed refusal before after .after ≡ before
 refused-unchanged refusal before after h = rw (ne-eqb refusal 0 h)
 
 -- a stab or readout that is not refused answers 0 and what is read ..
@@ -436,14 +437,14 @@ same-answered zero zeros a b h = rw (h refl)
 same-answered (suc r) zeros a b h = rw (ne-eqb (suc r) 0 (λ z. omega arith))
 
 -- what is so before a change, and after it where nothing refuses it, is so of what the change comes to
-pub change-keeps : (P : Profile → Type 0) (refusal : ℕ) (before after : Profile) → P before → (refusal ≡ 0 → P after)
-    → P (changed refusal before after .profile)
+pub change-keeps : {A : Type 0} (P : A → Type 0) (refusal : ℕ) (before after : A) → P before → (refusal ≡ 0 → P after)
+    → P (changed refusal before after .after)
 change-keeps P zero before after b a = a refl
 change-keeps P (suc r) before after b a = rw (refused-unchanged (suc r) before after (λ z. omega arith)) b
 
 -- the same of making an empty profile ..
 pub empty-keeps : (P : Profile → Type 0) (sizesRight : Bool) (p : Profile) → P p → (sizesRight ≡ true → P emptyProfile)
-    → P (emptyOutcome sizesRight p .profile)
+    → P (emptyOutcome sizesRight p .after)
 unfolding emptyOutcome
 empty-keeps P sizesRight p before after =
     change-keeps P (emptyRefusal sizesRight) p emptyProfile before (λ z. after (empty-accepted sizesRight .0 z))
@@ -451,7 +452,7 @@ empty-keeps P sizesRight p before after =
 module _ (P : Profile → Type 0) (sizesRight sound : Bool) (room : Room) (p : Profile) where
   -- .. of an insert ..
   pub insert-keeps : (b : Band) (lo hi : ℕ) → P p → (InsertAccepted sizesRight sound room p b lo hi → P (inserted p b lo hi))
-      → P (insertOutcome sizesRight sound room p b lo hi .profile)
+      → P (insertOutcome sizesRight sound room p b lo hi .after)
   unfolding insertOutcome
   insert-keeps b lo hi before after =
       change-keeps P (insertRefusal sizesRight sound room p b lo hi) p (inserted p b lo hi) before
@@ -459,7 +460,7 @@ module _ (P : Profile → Type 0) (sizesRight sound : Bool) (room : Room) (p : P
 
   -- .. and of a remove
   pub remove-keeps : (number scope : ℕ) → P p → (RemoveAccepted sizesRight sound room p number scope → P (removed p number))
-      → P (removeOutcome sizesRight sound room p number scope .profile)
+      → P (removeOutcome sizesRight sound room p number scope .after)
   unfolding removeOutcome
   remove-keeps number scope before after =
       change-keeps P (removeRefusal sizesRight sound room p number scope) p (removed p number) before

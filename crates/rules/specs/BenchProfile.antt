@@ -29,14 +29,14 @@ pub data Call : Type 0 where
   remove : ℕ → ℕ → Call
 
 -- what the call comes to in a memory of that room
-abbrev pub callOf : Room → Profile → Call → Change
+abbrev pub callOf : Room → Profile → Call → Change Profile
 callOf room p (insert b l h) = insertOutcome (roomInRange room) (soundIn room p) room p b l h
 callOf room p (remove n s) = removeOutcome (roomInRange room) (soundIn room p) room p n s
 
 -- the profile after some calls, one after the other
 abbrev pub lived : Room → Profile → List Call → Profile
 lived room p [] = p
-lived room p (c ∷ cs) = lived room (callOf room p c .profile) cs
+lived room p (c ∷ cs) = lived room (callOf room p c .after) cs
 
 abbrev pub wide : Room
 wide = roomOf 2048 16384

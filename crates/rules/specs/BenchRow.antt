@@ -120,32 +120,32 @@ profileIs room p bs ns m =
 abbrev pub stabIs : Bool → Profile → ℕ → ℕ → List ℕ → ℕ → ℕ → ℕ → Bool
 stabIs sizesRight p k refusal ns count met looks =
     eqb (stabAnswer sizesRight p k .refusal) refusal
-    and sameNumbers (stabAnswer sizesRight p k .answer .flags) (flagsOf ns)
-    and eqb (stabAnswer sizesRight p k .answer .count) count
-    and eqb (stabAnswer sizesRight p k .answer .met) met
-    and eqb (stabAnswer sizesRight p k .answer .looks) looks
+    and sameNumbers (stabAnswer sizesRight p k .read .flags) (flagsOf ns)
+    and eqb (stabAnswer sizesRight p k .read .count) count
+    and eqb (stabAnswer sizesRight p k .read .met) met
+    and eqb (stabAnswer sizesRight p k .read .looks) looks
 
 abbrev pub bandIs : Bool → Profile → ℕ → ℕ → Band → Bool
 bandIs sizesRight p number refusal b =
-    eqb (bandReadAnswer sizesRight p number .refusal) refusal and readsAs (bandReadAnswer sizesRight p number .answer) b
+    eqb (bandReadAnswer sizesRight p number .refusal) refusal and readsAs (bandReadAnswer sizesRight p number .read) b
 
 abbrev pub edgeIs : Bool → Profile → ℕ → ℕ → ℕ → Option ℕ → List ℕ → Bool
 edgeIs sizesRight p k i refusal y ns =
     eqb (edgeReadAnswer sizesRight p k i .refusal) refusal
-    and sameKey (edgeReadAnswer sizesRight p k i .answer .next) y
-    and sameNumbers (edgeReadAnswer sizesRight p k i .answer .flags) (flagsOf ns)
+    and sameKey (edgeReadAnswer sizesRight p k i .read .next) y
+    and sameNumbers (edgeReadAnswer sizesRight p k i .read .flags) (flagsOf ns)
 
 abbrev pub nodeIs : Bool → Profile → ℕ → ℕ → ℕ → List ℕ → Bool
 nodeIs sizesRight p k refusal l ns =
     eqb (nodeReadAnswer sizesRight p k .refusal) refusal
-    and eqb (nodeReadAnswer sizesRight p k .answer .level) l
-    and sameNumbers (nodeReadAnswer sizesRight p k .answer .flags) (flagsOf ns)
+    and eqb (nodeReadAnswer sizesRight p k .read .level) l
+    and sameNumbers (nodeReadAnswer sizesRight p k .read .flags) (flagsOf ns)
 
 abbrev pub inUseIs : Bool → Profile → ℕ → ℕ → ℕ → Bool
 inUseIs sizesRight p refusal n m =
     eqb (roomReadAnswer sizesRight p .refusal) refusal
-    and eqb (roomReadAnswer sizesRight p .answer .nodes) n
-    and eqb (roomReadAnswer sizesRight p .answer .marks) m
+    and eqb (roomReadAnswer sizesRight p .read .nodes) n
+    and eqb (roomReadAnswer sizesRight p .read .marks) m
 
 -- the number that a call names
 abbrev pub callNumber : Call → ℕ
@@ -178,20 +178,20 @@ rowRight (inUse p n m) = inUseIs true p 0 n m
 rowRight (noInUse p refusal) = inUseIs false p refusal 0 0
 rowRight (emptied p) =
     eqb (emptyOutcome true p .refusal) 0
-    and sameBands (emptyOutcome true p .profile .bands) []
-    and sameNodes (emptyOutcome true p .profile .nodes) []
+    and sameBands (emptyOutcome true p .after .bands) []
+    and sameNodes (emptyOutcome true p .after .nodes) []
 rowRight (notEmptied p) =
     eqb (emptyOutcome false p .refusal) 1
-    and sameBands (emptyOutcome false p .profile .bands) (p .bands)
-    and sameNodes (emptyOutcome false p .profile .nodes) (p .nodes)
+    and sameBands (emptyOutcome false p .after .bands) (p .bands)
+    and sameNodes (emptyOutcome false p .after .nodes) (p .nodes)
 rowRight (accepted room p c bs ns m) =
     eqb (callOf room p c .refusal) 0
-    and profileIs room (callOf room p c .profile) bs ns m
-    and reachesOnlyStretches (callNumber c) p (callOf room p c .profile)
+    and profileIs room (callOf room p c .after) bs ns m
+    and reachesOnlyStretches (callNumber c) p (callOf room p c .after)
 rowRight (refused room p c number) =
     eqb (callOf room p c .refusal) number
-    and sameBands (callOf room p c .profile .bands) (p .bands)
-    and sameNodes (callOf room p c .profile .nodes) (p .nodes)
+    and sameBands (callOf room p c .after .bands) (p .bands)
+    and sameNodes (callOf room p c .after .nodes) (p .nodes)
 rowRight (runs ns n from to) = eqb (stretchOf ns n .from) from and eqb (stretchOf ns n .to) to
 rowRight (near number p q expected) = Bool·beq (reachesOnlyStretches number p q) expected
 rowRight (alike p q k expected) = Bool·beq (answersAlike p q k) expected

@@ -87,7 +87,7 @@ errorRows =
     (nodeOf 100 1 ∷ nodeOf 200 3 ∷ nodeOf 250 1 ∷ nodeOf 300 2 ∷ nodeOf 400 1 ∷ nodeOf 900 2 ∷ [])
     12
     -- refusing 12 in the middle of a change that fits at its end: from 9 marks to 8 with room for 9
-    ∷ accepted (roomOf 5 9) (callOf wide (p9 wide) (remove 4 0) .profile) (insert (closed 4 0 40 40) 2 2)
+    ∷ accepted (roomOf 5 9) (callOf wide (p9 wide) (remove 4 0) .after) (insert (closed 4 0 40 40) 2 2)
     (closed 1 0 10 50 ∷ closed 2 0 20 20 ∷ closed 3 0 30 30 ∷ closed 4 0 40 40 ∷ [])
     (nodeOf 10 2 ∷ nodeOf 20 1 ∷ nodeOf 30 1 ∷ nodeOf 40 2 ∷ nodeOf 50 1 ∷ [])
     8
@@ -109,7 +109,7 @@ errorRows =
     ∷ stab firstOpen 0 [] 8
     ∷ stab firstOpen 5 (1 ∷ []) 9
     -- nodes of one level hide none of each other
-    ∷ stab (callOf wide (p9 wide) (remove 4 0) .profile) 60 [] 12
+    ∷ stab (callOf wide (p9 wide) (remove 4 0) .after) 60 [] 12
     -- the count is of flags and marks met of marks: two bands of one number, which no sound profile has, tell them apart
     ∷ meets (profileOf (closed 1 0 1 9 ∷ closed 1 0 1 9 ∷ []) (nodeOf 1 1 ∷ nodeOf 9 1 ∷ [])) 5 (1 ∷ []) 1 2 9
     ∷ []
@@ -254,7 +254,7 @@ acceptedRows =
     (closed 1 0 100 400 ∷ closed 3 0 200 300 ∷ [])
     (nodeOf 100 1 ∷ nodeOf 200 2 ∷ nodeOf 300 2 ∷ nodeOf 400 1 ∷ [])
     10
-    ∷ accepted wide (callOf wide around (insert (closed 3 0 200 300) 2 2) .profile) (remove 3 0)
+    ∷ accepted wide (callOf wide around (insert (closed 3 0 200 300) 2 2) .after) (remove 3 0)
     (closed 1 0 100 400 ∷ [])
     (nodeOf 100 1 ∷ nodeOf 400 1 ∷ [])
     3
@@ -318,12 +318,12 @@ reachRows =
     ∷ accepted wide nextTo (remove 3 0) (closed 1 0 10 20 ∷ closed 2 0 11 11 ∷ []) (nodeOf 10 2 ∷ nodeOf 11 1 ∷ nodeOf 20 1 ∷ []) 6
     -- looks at machine 1's keys may change by a call of machine 0
     ∷ stab bench 40000 [] 11
-    ∷ stab (callOf wide bench (insert (closed 6 0 950 950) 8 8) .profile) 40000 [] 9
-    ∷ alike bench (callOf wide bench (insert (closed 6 0 950 950) 8 8) .profile) 40000 true
+    ∷ stab (callOf wide bench (insert (closed 6 0 950 950) 8 8) .after) 40000 [] 9
+    ∷ alike bench (callOf wide bench (insert (closed 6 0 950 950) 8 8) .after) 40000 true
     -- answers at a key of machine 0
-    ∷ alike bench (callOf wide bench (insert (closed 6 1 32768 65535) 8 8) .profile) 250 true
-    ∷ alike bench (callOf wide bench (insert (closed 6 house 0 65535) 8 8) .profile) 250 false
-    ∷ alike bench (callOf wide bench (remove 4 0) .profile) 250 false
+    ∷ alike bench (callOf wide bench (insert (closed 6 1 32768 65535) 8 8) .after) 250 true
+    ∷ alike bench (callOf wide bench (insert (closed 6 house 0 65535) 8 8) .after) 250 false
+    ∷ alike bench (callOf wide bench (remove 4 0) .after) 250 false
     ∷ []
 
 -- The bench card: the key first, with place 0; each record by 2 to 6; a number that stands twice by 8, at the later place.

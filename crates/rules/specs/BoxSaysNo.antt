@@ -71,8 +71,11 @@ abbrev pub numberLive : Profile → ℕ → TableLine
 numberLive p number = line 8 (isLive number (p .bands))
 
 -- 9: remove or band readout: number is not live
+abbrev pub notLive : Bool → TableLine
+notLive live = line 9 (not live)
+
 abbrev pub numberNotLive : Profile → ℕ → TableLine
-numberNotLive p number = line 9 (not (isLive number (p .bands)))
+numberNotLive p number = notLive (isLive number (p .bands))
 
 -- 10: remove: the band's scope is another
 abbrev pub scopeOther : Profile → ℕ → ℕ → TableLine
@@ -87,11 +90,8 @@ abbrev pub marksExceed : Room → Profile → TableLine
 marksExceed room after = line 12 (ltb (room .marks) (marksInUse after))
 
 -- 13: edge or node readout: no node at the key, or it has no such lane
-abbrev pub noNode : Profile → ℕ → TableLine
-noNode p k = line 13 (not (standsAt k (p .nodes)))
-
-abbrev pub noLane : Profile → ℕ → ℕ → TableLine
-noLane p k i = line 13 (not (ltb i (levelAt k (p .nodes))))
+abbrev pub notThere : Bool → TableLine
+notThere there = line 13 (not there)
 
 -- the faults of a band by itself: 2 to 6
 abbrev pub bandLines : Band → List TableLine
@@ -148,24 +148,27 @@ removeLines sizesRight sound room p number scope =
 unfoldable pub removeRefusal : Bool → Bool → Room → Profile → ℕ → ℕ → ℕ
 removeRefusal sizesRight sound room p number scope = lowest (removeLines sizesRight sound room p number scope)
 
--- what a change comes to: the number it answers, 0 where it is accepted, and the profile after it
-pub record Change : Type 0 where
+-- what a change comes to: the number it answers, 0 where it is accepted, and what stands after it
+pub record Change (A : Type 0) : Type 0 where
   pub refusal : ℕ
-  pub profile : Profile
+  pub after : A
+
+abbrev pub leaving : {A : Type 0} → ℕ → A → Change A
+leaving refusal a = record { refusal = refusal; after = a }
 
 -- a refused change leaves all as it was
-abbrev pub changed : ℕ → Profile → Profile → Change
-changed refusal before after = record { refusal = refusal; profile = cond (eqb refusal 0) after before }
+abbrev pub changed : {A : Type 0} → ℕ → A → A → Change A
+changed refusal before after = leaving refusal (cond (eqb refusal 0) after before)
 
 -- making an empty profile, whatever the memory held
-unfoldable pub emptyOutcome : Bool → Profile → Change
+unfoldable pub emptyOutcome : Bool → Profile → Change Profile
 emptyOutcome sizesRight p = changed (emptyRefusal sizesRight) p emptyProfile
 
-unfoldable pub insertOutcome : Bool → Bool → Room → Profile → Band → ℕ → ℕ → Change
+unfoldable pub insertOutcome : Bool → Bool → Room → Profile → Band → ℕ → ℕ → Change Profile
 insertOutcome sizesRight sound room p b lowLevel highLevel =
     changed (insertRefusal sizesRight sound room p b lowLevel highLevel) p (inserted p b lowLevel highLevel)
 
-unfoldable pub removeOutcome : Bool → Bool → Room → Profile → ℕ → ℕ → Change
+unfoldable pub removeOutcome : Bool → Bool → Room → Profile → ℕ → ℕ → Change Profile
 removeOutcome sizesRight sound room p number scope =
     changed (removeRefusal sizesRight sound room p number scope) p (removed p number)
 
@@ -176,26 +179,27 @@ stabLines sizesRight k = sizesWrong sizesRight ∷ keyAbove k ∷ []
 unfoldable pub stabRefusal : Bool → ℕ → ℕ
 stabRefusal sizesRight k = lowest (stabLines sizesRight k)
 
--- band readout: 1 (sizes), 3, 9
-abbrev pub bandReadLines : Bool → Profile → ℕ → List TableLine
-bandReadLines sizesRight p number = sizesWrong sizesRight ∷ numberAbove number ∷ numberNotLive p number ∷ []
+-- band readout: 1 (sizes), 3, 9, where it is known whether the number is live
+abbrev pub bandReadLines : Bool → ℕ → Bool → List TableLine
+bandReadLines sizesRight number live = sizesWrong sizesRight ∷ numberAbove number ∷ notLive live ∷ []
 
 unfoldable pub bandReadRefusal : Bool → Profile → ℕ → ℕ
-bandReadRefusal sizesRight p number = lowest (bandReadLines sizesRight p number)
+bandReadRefusal sizesRight p number = lowest (bandReadLines sizesRight number (isLive number (p .bands)))
 
--- edge readout: 1 (sizes), 4, 13
-abbrev pub edgeReadLines : Bool → Profile → ℕ → ℕ → List TableLine
-edgeReadLines sizesRight p k i = sizesWrong sizesRight ∷ keyAbove k ∷ noNode p k ∷ noLane p k i ∷ []
+-- edge readout: 1 (sizes), 4, 13, where it is known whether a node stands at the key and has the lane
+abbrev pub edgeReadLines : Bool → ℕ → Bool → Bool → List TableLine
+edgeReadLines sizesRight k stands hasLane = sizesWrong sizesRight ∷ keyAbove k ∷ notThere stands ∷ notThere hasLane ∷ []
 
 unfoldable pub edgeReadRefusal : Bool → Profile → ℕ → ℕ → ℕ
-edgeReadRefusal sizesRight p k i = lowest (edgeReadLines sizesRight p k i)
+edgeReadRefusal sizesRight p k i =
+    lowest (edgeReadLines sizesRight k (standsAt k (p .nodes)) (ltb i (levelAt k (p .nodes))))
 
--- node readout: 1 (sizes), 4, 13
-abbrev pub nodeReadLines : Bool → Profile → ℕ → List TableLine
-nodeReadLines sizesRight p k = sizesWrong sizesRight ∷ keyAbove k ∷ noNode p k ∷ []
+-- node readout: 1 (sizes), 4, 13, where it is known whether a node stands at the key
+abbrev pub nodeReadLines : Bool → ℕ → Bool → List TableLine
+nodeReadLines sizesRight k stands = sizesWrong sizesRight ∷ keyAbove k ∷ notThere stands ∷ []
 
 unfoldable pub nodeReadRefusal : Bool → Profile → ℕ → ℕ
-nodeReadRefusal sizesRight p k = lowest (nodeReadLines sizesRight p k)
+nodeReadRefusal sizesRight p k = lowest (nodeReadLines sizesRight k (standsAt k (p .nodes)))
 
 -- room readout: 1 (sizes)
 abbrev pub roomReadLines : Bool → List TableLine
@@ -207,10 +211,10 @@ roomReadRefusal sizesRight = lowest (roomReadLines sizesRight)
 -- a stab or a readout answers its number, 0 where it is not refused, and what is read
 pub record Answered (A : Type 0) : Type 0 where
   pub refusal : ℕ
-  pub answer : A
+  pub read : A
 
 abbrev pub saying : {A : Type 0} → ℕ → A → Answered A
-saying refusal a = record { refusal = refusal; answer = a }
+saying refusal a = record { refusal = refusal; read = a }
 
 -- a refused stab or readout answers zeros throughout beside its number
 abbrev pub answered : {A : Type 0} → ℕ → A → A → Answered A

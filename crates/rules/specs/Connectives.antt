@@ -1,7 +1,8 @@
--- Two tests joined, and a test as a number.
+-- Two tests joined, a test as a number, and a number as a test.
 -- Assumes nothing.
 use Prim.Native.Nat.{ℕ}
-use mathlib.Core.Bool.{Bool, true, false}
+use mathlib.Core.Bool.{Bool, true, false, not}
+use lib.Dec.{eqb}
 
 infixr 35 _and_
 infixr 30 _or_
@@ -19,3 +20,7 @@ false or b = b
 abbrev pub oneIf : Bool → ℕ
 oneIf true = 1
 oneIf false = 0
+
+-- 0 says no, any other number says yes
+abbrev pub saysYes : ℕ → Bool
+saysYes w = not (eqb w 0)

@@ -48,6 +48,6 @@ standing p =
 unfoldable pub fits : Room → Profile → Bool
 fits room p = roomInRange room and leb (length (p .nodes)) (room .nodes) and leb (marksInUse p) (room .marks)
 
--- a profile that memory of that room may soundly hold: the check says yes of memory that holds it by the rules exactly when this passes
+-- a profile that sound memory of that room can hold
 unfoldable pub soundIn : Room → Profile → Bool
 soundIn room p = standing p and fits room p

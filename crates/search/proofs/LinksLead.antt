@@ -1,5 +1,5 @@
--- Tests of the key where a link leads, on words that lay a profile, at a place with the nodes after it ahead: no test passes where the lane has none
--- ahead, else it is of the key of the lane's next node.
+-- A test of the node that a link leads to, on words that lay a profile: it fails where the lane has no node ahead, else it is the test of the key
+-- of the lane's next node.
 -- Assumes nothing.
 use Prim.Native.Nat.{ℕ, suc, _+_}
 use mathlib.Core.Path.{_≡_}

@@ -1,4 +1,4 @@
--- The search over the words of a laid profile is the paper's search: it takes the same marks in the same order, looks as often, and ends with as
+-- The search over the words of a laid profile that stands and has at most 2,048 nodes is the paper's search: it takes the same marks in the same order, looks as often, and ends with as
 -- many nodes behind it as are below the key.
 -- Assumes nothing.
 use Prim.Native.Nat.{ℕ, zero, suc, _+_, _≤_}
@@ -9,6 +9,7 @@ use native.Mathlib.Omega.{arith}
 use lib.ListN.{length}
 use Rattle.rules.specs.NodesLanesEdges.{lanes, laneOf}
 use Rattle.rules.specs.Profile.{Profile}
+use Rattle.rules.specs.Room.{mostNodes}
 use Rattle.rules.specs.Search.{Spot, dropIn, dropTakes, takesFrom, stepsFrom, start, taken, stepsOf, looks}
 use Rattle.rules.proofs.SoundMemory.{Standing}
 use Rattle.rules.proofs.Theory.LooksAreSteps.{looks-are-steps}
@@ -70,7 +71,7 @@ module _ {p : Profile} {nodes marks : List ℕ} (laid : Lays p nodes marks) (s :
           rw (g .is-below) (comes-by-step at (g .drops) (g .one-step) (onward (g .to) (g .stands) (omega (arith, g .fewer-ahead))))
 
 -- the search over the words comes to what the paper's search takes, to its looks, and to as many nodes behind as are below the key
-pub search-on-laid : (p : Profile) (nodes marks : List ℕ) → Lays p nodes marks → Standing p → length (p .nodes) ≤ 2048 → (k : ℕ)
+pub search-on-laid : (p : Profile) (nodes marks : List ℕ) → Lays p nodes marks → Standing p → length (p .nodes) ≤ mostNodes → (k : ℕ)
     → searchOf nodes marks k ≡ descentOf (taken p k) (looks p k) (below k (p .nodes))
 unfolding searchOf taken stepsOf
 search-on-laid p nodes marks laid s l k =

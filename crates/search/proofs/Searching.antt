@@ -10,6 +10,7 @@ use lib.Dec.{eqb, ltb}
 use lib.ListN.{length}
 use Rattle.rules.specs.Lists.{onlyIf}
 use Rattle.rules.specs.NodesLanesEdges.{lanes}
+use Rattle.rules.specs.Room.{mostMarks}
 use Rattle.store.specs.Places.{header}
 use Rattle.store.specs.SaidMarks.{saidMarks}
 use Rattle.store.proofs.Between.{between-at-most}
@@ -25,7 +26,7 @@ use Rattle.search.proofs.DescendSteps.{finished, finished-from-header, 
 pub record Searching (nodes marks : List ℕ) (k : ℕ) (t : Taken) (l i m : ℕ) : Type 0 where
   pub numbers : List ℕ
   pub taken-are : t ≡ takenOf numbers
-  pub few-met : t .met + m * 16384 ≤ lanes * 16384
+  pub few-met : t .met + m * mostMarks ≤ lanes * mostMarks
   pub few-looks : l ≤ mostLooks
   pub place-fits : i < 2 ^ 32
   pub finish : finished nodes marks k numbers l i m ≡ searchOf nodes marks k
@@ -58,7 +59,7 @@ module _ (nodes marks : List ℕ) (k : ℕ) where
   alike s p q r e = rw (p, q, r, e) s
 
   -- it drops a lane, and takes what is taken on dropping
-  goes-down : {t u : Taken} {l i lane : ℕ} → Searching nodes marks k t l i (suc lane) → l < mostLooks → length marks ≤ 16384
+  goes-down : {t u : Taken} {l i lane : ℕ} → Searching nodes marks k t l i (suc lane) → l < mostLooks → length marks ≤ mostMarks
       → isBelow nodes k (nextOf nodes i lane) ≡ false → u ≡ withTaken t (takenOnDrop nodes marks k i lane)
       → Searching nodes marks k u (l + 1) i lane
   unfolding takenOnDrop
@@ -88,7 +89,7 @@ module _ (nodes marks : List ℕ) (k : ℕ) where
           finish = rw (n .link) (sym (finished-on nodes marks k (s .numbers) l i lane h (sym (tests-below n k) ∙ e))) ∙ s .finish;
         }
 
-    pub drops-taking : {u : Taken} → length marks ≤ 16384 → not (eqb next 0) && ltb next-key k ≡ false
+    pub drops-taking : {u : Taken} → length marks ≤ mostMarks → not (eqb next 0) && ltb next-key k ≡ false
         → not (eqb next 0) && ltb k next-key ≡ true → u ≡ withTaken t (saidMarks nodes marks i (1 + lane))
         → Searching nodes marks k u (l + 1) i lane
     unfolding takenOnDrop
@@ -96,7 +97,7 @@ module _ (nodes marks : List ℕ) (k : ℕ) where
         let slot : 1 + lane ≡ suc lane = omega arith in
         goes-down s h room (sym (tests-below n k) ∙ e) (taken-where t _ (tests-above n k) f (rw slot at g))
 
-    pub drops : length marks ≤ 16384 → not (eqb next 0) && ltb next-key k ≡ false → not (eqb next 0) && ltb k next-key ≡ false
+    pub drops : length marks ≤ mostMarks → not (eqb next 0) && ltb next-key k ≡ false → not (eqb next 0) && ltb k next-key ≡ false
         → Searching nodes marks k t (l + 1) i lane
     unfolding takenOnDrop
     drops room e f = goes-down s h room (sym (tests-below n k) ∙ e) (untaken-where t _ (tests-above n k) f)

@@ -1,13 +1,14 @@
 -- "The search", over node and mark words, on any memory: from the header in the highest lane down, what it takes and how often it looks.
--- A link of 0 leads nowhere; a word past the end reads as 0. A search that has looked 2,056 times stops, which no search of a sound profile needs.
+-- A link of 0 leads nowhere; a word past the end reads as 0. A search that would look a 2,057th time stops; on a sound profile none would.
 -- Assumes nothing.
-use Prim.Native.Nat.{ℕ, zero, suc}
+use Prim.Native.Nat.{ℕ, zero, suc, _+_}
 use mathlib.Core.Bool.{Bool, not, cond}
 use mathlib.Core.List.{List, [], _++_}
 use lib.Dec.{ltb, eqb}
 use Rattle.rules.specs.Connectives.{_and_}
 use Rattle.rules.specs.Lists.{onlyIf}
 use Rattle.rules.specs.NodesLanesEdges.{lanes}
+use Rattle.rules.specs.Room.{mostNodes}
 use Rattle.store.specs.Places.{nodeField, keyField, linkField, header}
 use Rattle.store.specs.SaidMarks.{saidMarks}
 
@@ -26,7 +27,7 @@ looked ns d = descentOf (ns ++ d .taken) (suc (d .looks)) (d .place)
 
 -- the most looks: 8, one for each lane, and one for each of 2,048 nodes
 abbrev pub mostLooks : ℕ
-mostLooks = 2056
+mostLooks = lanes + mostNodes
 
 -- the node that comes next after place i in a lane; 0 for none
 unfoldable pub nextOf : List ℕ → ℕ → ℕ → ℕ
@@ -52,7 +53,8 @@ takenOnDrop nodes marks k i lane = onlyIf (isAbove nodes k (nextOf nodes i lane)
 unfoldable pub takenAtEnd : List ℕ → List ℕ → ℕ → ℕ → List ℕ
 takenAtEnd nodes marks k i = onlyIf (isAt nodes k (nextOf nodes i 0)) (saidMarks nodes marks (nextOf nodes i 0) 0)
 
--- the search from place i on, in the lowest m lanes and with so many looks left: step on while the next node is below k, else drop a lane
+-- the search from place i on, in the lowest m lanes and with so many looks left: step on while the next node is below k, else drop a lane;
+-- with lanes to do and no look left it stops and takes no more
 abbrev pub descend : List ℕ → List ℕ → ℕ → ℕ → ℕ → ℕ → Descent
 descend nodes marks k zero left i = descentOf (takenAtEnd nodes marks k i) 0 i
 descend nodes marks k (suc lane) zero i = descentOf [] 0 i

@@ -8,7 +8,7 @@ use mathlib.Core.Option.{Option, none, some}
 use native.Mathlib.Nat.{zero-add}
 use native.Mathlib.Omega.{arith}
 use lib.ListN.{length, getD, replicate}
-use Rattle.rules.specs.Connectives.{oneIf}
+use Rattle.rules.specs.Connectives.{oneIf, saysYes}
 use Rattle.rules.specs.HallLine.{Band, bandOf, highestBandNumber}
 use Rattle.rules.specs.Profile.{bandNumbered}
 use Rattle.rules.proofs.Means.{never}
@@ -16,7 +16,7 @@ use Rattle.rules.proofs.Lists.{In, Each, ascends-by-members}
 use Rattle.rules.proofs.Profile.{NumbersAsc, numbered-in, numbered}
 use Rattle.store.specs.Sizes.{bandPlaces, bandPlaceWords}
 use Rattle.store.specs.Places.{bandField, liveField, scopeField, lowField, highField, lowClosedField, highClosedField}
-use Rattle.store.specs.SaidProfile.{saysYes, saidBand, saidBands}
+use Rattle.store.specs.SaidProfile.{saidBand, saidBands}
 use Rattle.store.specs.LaidBands.{laidBandField, laidBandsFrom, laidBands}
 use Rattle.store.proofs.WordByWord.{made-length, made-at}
 use Rattle.store.proofs.SaidBands.{saysLive, SaysBand, said-bands-ascend, in-said-bands}

@@ -9,8 +9,9 @@ use Rattle.rules.specs.NodesLanesEdges.{lanes}
 use Rattle.rules.specs.Profile.{emptyProfile}
 use Rattle.rules.specs.Marks.{marksInUse}
 use Rattle.store.specs.Sizes.{nodePlaceWords}
-use Rattle.store.specs.LaidNodes.{laidHeader}
-use Rattle.store.specs.LaidMemory.{padded, laidNodes, laidMarks}
+use Rattle.store.specs.LaidNodes.{laidHeader, laidNodes}
+use Rattle.store.specs.Padded.{padded}
+use Rattle.store.specs.LaidMarks.{laidMarks}
 
 pub laid-nodes-none : (words : ℕ) → nodePlaceWords ≤ words → laidNodes words emptyProfile ≡ set (replicate words 0) 1 lanes
 unfolding laidNodes padded laidHeader marksInUse

@@ -4,7 +4,8 @@ use Prim.Native.Nat.{ℕ, suc}
 use native.Mathlib.Omega.{arith}
 use Rattle.rules.specs.Profile.{Profile}
 use Rattle.store.specs.SaidMarks.{between, saidMarks}
-use Rattle.store.specs.LaidMemory.{laidNodes, laidMarks}
+use Rattle.store.specs.LaidNodes.{laidNodes}
+use Rattle.store.specs.LaidMarks.{laidMarks}
 use Rattle.store.proofs.Lays.{Lays}
 use Rattle.store.proofs.LaidNodes.{laid-in-use, laid-marks-in-use, laid-first-link, laid-header-zero, laid-key, laid-level, laid-link, laid-fence}
 use Rattle.store.proofs.LaidMarks.{slot-between}

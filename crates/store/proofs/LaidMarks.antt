@@ -19,8 +19,8 @@ use Rattle.rules.specs.Staircase.{slotsPerNode, slotNumber, outMarked, markedLi
 use Rattle.rules.proofs.Sums.{sum-same, sum-zero, sum-plus}
 use Rattle.rules.proofs.Theory.MarkedSlots.{slot-count}
 use Rattle.store.specs.SaidMarks.{between}
-use Rattle.store.specs.LaidMarks.{slotMarks, slotsMarks, nodeMarks, laidMarksFrom}
-use Rattle.store.specs.LaidMemory.{padded, laidMarks}
+use Rattle.store.specs.LaidMarks.{slotMarks, slotsMarks, nodeMarks, laidMarksFrom, laidMarks}
+use Rattle.store.specs.Padded.{padded}
 use Rattle.store.proofs.Padded.{padded-length}
 
 -- ---- as many as the marks in use

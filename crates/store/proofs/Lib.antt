@@ -7,8 +7,8 @@
 --   LaidBands, LaidNodes, LaidMarks    the words of a profile, and that they say what was laid
 --   LaidLays       .. so they lay it
 --   LaidEmpty      the words of the empty profile
---   Sound          sound memory, and that a profile and a room have one
---   LaidSound      what is laid is sound
+--   Sound          sound memory in plain facts, and that two of the same lengths and profile are equal
+--   LaidSound      what is laid is sound and says the profile: each that stands and fits has such a memory
 --   MemoryExample  the example of docs/MEMORY.md
 -- Suffixes, Padded, WordByWord and PlaceWords have what these are proved with.
 pub mod RightSizes

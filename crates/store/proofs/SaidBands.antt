@@ -7,6 +7,7 @@ use mathlib.Core.Logic.{_↔_, ⊎-map}
 use mathlib.Core.List.{List}
 use mathlib.Core.Option.{none, some}
 use native.Mathlib.Omega.{arith}
+use Rattle.rules.specs.Connectives.{saysYes}
 use Rattle.rules.specs.Lists.{addIf}
 use Rattle.rules.specs.HallLine.{Band}
 use Rattle.rules.specs.Profile.{isLive, bandNumbered}
@@ -15,7 +16,7 @@ use Rattle.rules.proofs.Lists.{In, in-addIf, some-lane-up, ascends-lower}
 use Rattle.rules.proofs.Profile.{NumbersAsc, is-live-means, numbered-none, numbered}
 use Rattle.store.specs.Sizes.{bandPlaces}
 use Rattle.store.specs.Places.{bandField, liveField}
-use Rattle.store.specs.SaidProfile.{saysYes, saidBand, saidBandsFrom, saidBands}
+use Rattle.store.specs.SaidProfile.{saidBand, saidBandsFrom, saidBands}
 
 module _ (words : List ℕ) where
   -- the place of number b says that the number is live

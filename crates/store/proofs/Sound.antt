@@ -1,4 +1,4 @@
--- Sound memory as a record of plain facts; and of the sound memories of given lengths there is one for each profile.
+-- Sound memory as a record of plain facts; and two sound memories of the same lengths that say the same profile are equal.
 -- Assumes nothing.
 use mathlib.Core.Path.{_≡_, sym, _∙_}
 use mathlib.Core.Bool.{true}

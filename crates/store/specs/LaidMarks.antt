@@ -1,5 +1,5 @@
 -- The mark words of a profile: node by node, at each its slots in order, at each slot the numbers that the rule marks there, ascending as the
--- bands do. No word stands for anything else.
+-- bands do; then zeros.
 -- Assumes nothing.
 use Prim.Native.Nat.{ℕ, zero, suc}
 use mathlib.Core.List.{List, [], _∷_, _++_}
@@ -7,6 +7,7 @@ use Rattle.rules.specs.NodesLanesEdges.{Node}
 use Rattle.rules.specs.Profile.{Profile}
 use Rattle.rules.specs.Marks.{numbersWhere, markedOnNode}
 use Rattle.rules.specs.Staircase.{outMarked, slotsPerNode}
+use Rattle.store.specs.Padded.{padded}
 
 -- the numbers marked in a slot of node n, with `rest` after it: slot 0 is the node, slot 1 + i its edge in lane i
 unfoldable pub slotMarks : Profile → Node → List Node → ℕ → List ℕ
@@ -26,3 +27,7 @@ nodeMarks p n rest = slotsMarks p n rest 0 slotsPerNode
 abbrev pub laidMarksFrom : Profile → List Node → List ℕ
 laidMarksFrom p [] = []
 laidMarksFrom p (n ∷ rest) = nodeMarks p n rest ++ laidMarksFrom p rest
+
+-- all marks, in n words
+unfoldable pub laidMarks : ℕ → Profile → List ℕ
+laidMarks n p = padded n (laidMarksFrom p (p .nodes))

@@ -1,4 +1,4 @@
--- The node words of a profile: the header, then a record for each node in key order.
+-- The node words of a profile: the header, then a record for each node in key order, then zeros.
 -- Assumes nothing.
 use Prim.Native.Nat.{ℕ, zero, suc, _+_}
 use mathlib.Core.Bool.{cond}
@@ -8,6 +8,7 @@ use Rattle.rules.specs.NodesLanesEdges.{Node, lanes, takesPart}
 use Rattle.rules.specs.Profile.{Profile}
 use Rattle.rules.specs.Marks.{marksInUse}
 use Rattle.rules.specs.Staircase.{slotsPerNode}
+use Rattle.store.specs.Padded.{padded}
 use Rattle.store.specs.LaidMarks.{slotMarks, nodeMarks}
 
 -- the place of the first node of lane i among those from place j on; 0 for none
@@ -43,3 +44,7 @@ abbrev pub laidNodesFrom : Profile → ℕ → ℕ → List Node → List ℕ
 laidNodesFrom p j at [] = []
 laidNodesFrom p j at (n ∷ rest) =
     laidNode p j at n rest ++ laidNodesFrom p (suc j) (at + length (nodeMarks p n rest)) rest
+
+-- header and records, in n words
+unfoldable pub laidNodes : ℕ → Profile → List ℕ
+laidNodes n p = padded n (laidHeader p ++ laidNodesFrom p 1 0 (p .nodes))

@@ -4,6 +4,7 @@ pub mod Memory
 pub mod Places
 pub mod SaidProfile
 pub mod SaidMarks
+pub mod Padded
 pub mod LaidBands
 pub mod LaidNodes
 pub mod LaidMarks

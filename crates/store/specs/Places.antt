@@ -52,5 +52,8 @@ header = 0
 abbrev pub nodesInUseField : ℕ
 nodesInUseField = 0
 
+abbrev pub laneCountField : ℕ
+laneCountField = 1
+
 abbrev pub marksInUseField : ℕ
 marksInUseField = 10

@@ -1,9 +1,8 @@
 -- The profile that words say: the live bands by their places, and as many nodes as the header counts.
 -- Assumes nothing.
 use Prim.Native.Nat.{ℕ, zero, suc}
-use mathlib.Core.Bool.{Bool, not}
 use mathlib.Core.List.{List, [], _∷_}
-use lib.Dec.{eqb}
+use Rattle.rules.specs.Connectives.{saysYes}
 use Rattle.rules.specs.Lists.{addIf}
 use Rattle.rules.specs.HallLine.{Band, bandOf}
 use Rattle.rules.specs.NodesLanesEdges.{Node, nodeOf}
@@ -11,10 +10,6 @@ use Rattle.rules.specs.Profile.{Profile, profileOf}
 use Rattle.store.specs.Sizes.{bandPlaces}
 use Rattle.store.specs.Memory.{Memory}
 use Rattle.store.specs.Places.{bandField, liveField, scopeField, lowField, highField, lowClosedField, highClosedField, nodeField, keyField, levelField, header, nodesInUseField}
-
--- a word as a test: 0 says no, any other says yes
-abbrev pub saysYes : ℕ → Bool
-saysYes w = not (eqb w 0)
 
 -- the band that the place of number b says
 unfoldable pub saidBand : List ℕ → ℕ → Band

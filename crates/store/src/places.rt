@@ -1,12 +1,12 @@
 // Where each field stands, and reading one: a word past the end of its slice reads as 0, so that any memory can be read.
 ghost use mathlib.Core.Path.{_≡_};
-ghost use Prim.Native.Nat.{_≤_, _<_, _^_};
+ghost use Prim.Native.Nat.{_<_, _^_};
 ghost use lib.ListN.{getD};
 ghost use Rattle.store.specs.Places.{bandField, nodeField};
 
-const BAND_PLACE: usize = 8;
+const BAND_PLACE_WORDS: usize = 8;
 
-pub const NODE_PLACE: usize = 20;
+pub const NODE_PLACE_WORDS: usize = 20;
 
 // A band place: whether the number is live, and the band's numbers.
 pub const LIVE: usize = 0;
@@ -35,7 +35,11 @@ pub const HEADER: usize = 0;
 
 pub const NODES_IN_USE: usize = 0;
 
+pub const LANE_COUNT: usize = 1;
+
 pub const MARKS_IN_USE: usize = 10;
+
+pub const LANES: usize = 8;
 
 // A word of a slice.
 fn word(words: &[u32], at: usize) -> usize
@@ -53,7 +57,7 @@ pub fn band_word(bands: &[u32], number: usize, field: usize) -> usize
     requires { ⌜ (number < 2 ^ 32) × (field < 8) ⌝ }
     ensures { λ r. ⌜ (r ≡ bandField (now (bands .entry)) number field) × (r < 2 ^ 32) ⌝ }
 {
-    word(bands, number * BAND_PLACE + field)
+    word(bands, number * BAND_PLACE_WORDS + field)
 }
 
 // A field of a node place; place 0 is the header's.
@@ -61,5 +65,5 @@ pub fn node_word(nodes: &[u32], place: usize, field: usize) -> usize
     requires { ⌜ (place < 2 ^ 32) × (field < 20) ⌝ }
     ensures { λ r. ⌜ (r ≡ nodeField (now (nodes .entry)) place field) × (r < 2 ^ 32) ⌝ }
 {
-    word(nodes, place * NODE_PLACE + field)
+    word(nodes, place * NODE_PLACE_WORDS + field)
 }

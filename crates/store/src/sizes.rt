@@ -1,9 +1,8 @@
 // Which lengths of the three slices are right.
 ghost use mathlib.Core.Path.{_≡_};
-ghost use lib.ListN.{length};
 ghost use Rattle.store.specs.Sizes.{sizesRight};
 ghost use Rattle.store.specs.Memory.{lent, lengthsIn};
-use crate::places::NODE_PLACE;
+use crate::places::NODE_PLACE_WORDS;
 
 const BAND_WORDS: usize = 8192;
 
@@ -15,8 +14,8 @@ const MOST_MARKS: usize = 16384;
 pub fn sizes_right(bands: &[u32], nodes: &[u32], marks: &[u32]) -> bool
     ensures { λ r. ⌜ r ≡ sizesRight (lengthsIn (lent (now (bands .entry)) (now (nodes .entry)) (now (marks .entry)))) ⌝ }
 {
-    let places = nodes.len() / NODE_PLACE;
-    let whole = (bands.len() == BAND_WORDS) & (nodes.len() % NODE_PLACE == 0);
+    let places = nodes.len() / NODE_PLACE_WORDS;
+    let whole = (bands.len() == BAND_WORDS) & (nodes.len() % NODE_PLACE_WORDS == 0);
     let nodes_fit = (2 <= places) & (places <= MOST_NODES + 1);
     let marks_fit = (1 <= marks.len()) & (marks.len() <= MOST_MARKS);
     whole & nodes_fit & marks_fit

@@ -78,7 +78,7 @@ others-alike m p q before after only l n below off k own =
 
 module _ (sizesRight sound : Bool) (room : Room) (p : Profile) (s : Standing p) where
   -- an insert of scope below 64, accepted or refused, leaves flags, count and marks met the same at every key of every other machine
-  pub insert-alone : (b : Band) (lo hi : ℕ) → OthersAlike (b .scope) p (insertOutcome sizesRight sound room p b lo hi .profile)
+  pub insert-alone : (b : Band) (lo hi : ℕ) → OthersAlike (b .scope) p (insertOutcome sizesRight sound room p b lo hi .after)
   insert-alone b lo hi =
       others-alike (b .scope) p _ s (insert-keeps-standing sizesRight sound room p b lo hi s)
       (insert-keeps (DifferOnlyIn (b .scope) p) sizesRight sound room p b lo hi
@@ -86,7 +86,7 @@ module _ (sizesRight sound : Bool) (room : Room) (p : Profile) (s : Standing p) 
       (λ t. insert-keeps-others p b lo hi (λ c. c .scope ≡ b .scope) refl))
 
   -- and so does a remove
-  pub remove-alone : (number scope : ℕ) → OthersAlike scope p (removeOutcome sizesRight sound room p number scope .profile)
+  pub remove-alone : (number scope : ℕ) → OthersAlike scope p (removeOutcome sizesRight sound room p number scope .after)
   remove-alone number scope =
       others-alike scope p _ s (remove-keeps-standing sizesRight sound room p number scope s)
       (remove-keeps (DifferOnlyIn scope p) sizesRight sound room p number scope

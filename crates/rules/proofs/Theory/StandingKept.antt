@@ -97,23 +97,23 @@ empty-sound room e =
 
 module _ (sizesRight : Bool) (p : Profile) where
   -- making an empty profile, accepted or refused, leaves a standing profile standing ..
-  pub empty-keeps-standing : Standing p → Standing (emptyOutcome sizesRight p .profile)
+  pub empty-keeps-standing : Standing p → Standing (emptyOutcome sizesRight p .after)
   empty-keeps-standing s = empty-keeps Standing sizesRight p s (λ t. empty-stands)
 
   -- .. by the test too ..
-  pub empty-keeps-standing-test : standing p ≡ true → standing (emptyOutcome sizesRight p .profile) ≡ true
+  pub empty-keeps-standing-test : standing p ≡ true → standing (emptyOutcome sizesRight p .after) ≡ true
   empty-keeps-standing-test e = standing-means _ .test (empty-keeps-standing (standing-means p .fact e))
 
   module _ (room : Room) where
     -- .. and a sound one sound ..
-    pub empty-keeps-sound : soundIn room p ≡ true → soundIn room (emptyOutcome sizesRight p .profile) ≡ true
+    pub empty-keeps-sound : soundIn room p ≡ true → soundIn room (emptyOutcome sizesRight p .after) ≡ true
     empty-keeps-sound e =
         let f = sound-in-means room p .fact e .1 in
         empty-keeps (λ q. soundIn room q ≡ true) sizesRight p e
         (λ t. empty-sound room (room-in-range-means room .test (f .node-room, f .mark-room)))
 
     -- .. and, where sizes are right, a sound one whatever was there
-    pub empty-makes-sound : sizesRight ≡ true → roomInRange room ≡ true → soundIn room (emptyOutcome sizesRight p .profile) ≡ true
+    pub empty-makes-sound : sizesRight ≡ true → roomInRange room ≡ true → soundIn room (emptyOutcome sizesRight p .after) ≡ true
     unfolding emptyOutcome
     empty-makes-sound t r =
         rw (accepted-changes (emptyRefusal sizesRight) p emptyProfile (empty-accepted sizesRight .1 t)) (empty-sound room r)
@@ -125,15 +125,15 @@ module _ (sizesRight sound : Bool) (room : Room) (p : Profile) where
     taken-stands s t = inserted-stands p b lo hi s (t .band-right) (t .levels-right .0) (t .levels-right .1) (t .number-free)
 
     -- an insert leaves a standing profile standing ..
-    pub insert-keeps-standing : Standing p → Standing (insertOutcome sizesRight sound room p b lo hi .profile)
+    pub insert-keeps-standing : Standing p → Standing (insertOutcome sizesRight sound room p b lo hi .after)
     insert-keeps-standing s = insert-keeps Standing sizesRight sound room p b lo hi s (taken-stands s)
 
     -- .. by the test too ..
-    pub insert-keeps-standing-test : standing p ≡ true → standing (insertOutcome sizesRight sound room p b lo hi .profile) ≡ true
+    pub insert-keeps-standing-test : standing p ≡ true → standing (insertOutcome sizesRight sound room p b lo hi .after) ≡ true
     insert-keeps-standing-test e = standing-means _ .test (insert-keeps-standing (standing-means p .fact e))
 
     -- .. and a sound one sound: nodes and marks fit by 11 and 12
-    pub insert-keeps-sound : soundIn room p ≡ true → soundIn room (insertOutcome sizesRight sound room p b lo hi .profile) ≡ true
+    pub insert-keeps-sound : soundIn room p ≡ true → soundIn room (insertOutcome sizesRight sound room p b lo hi .after) ≡ true
     insert-keeps-sound e =
         let h = sound-in-means room p .fact e in
         sound-in-means room _ .test
@@ -142,15 +142,15 @@ module _ (sizesRight sound : Bool) (room : Room) (p : Profile) where
 
   module _ (number scope : ℕ) where
     -- a remove leaves a standing profile standing ..
-    pub remove-keeps-standing : Standing p → Standing (removeOutcome sizesRight sound room p number scope .profile)
+    pub remove-keeps-standing : Standing p → Standing (removeOutcome sizesRight sound room p number scope .after)
     remove-keeps-standing s = remove-keeps Standing sizesRight sound room p number scope s (λ t. removed-stands p number s)
 
     -- .. by the test too ..
-    pub remove-keeps-standing-test : standing p ≡ true → standing (removeOutcome sizesRight sound room p number scope .profile) ≡ true
+    pub remove-keeps-standing-test : standing p ≡ true → standing (removeOutcome sizesRight sound room p number scope .after) ≡ true
     remove-keeps-standing-test e = standing-means _ .test (remove-keeps-standing (standing-means p .fact e))
 
     -- .. and a sound one sound: nodes fit since they are no more than before, marks by 12
-    pub remove-keeps-sound : soundIn room p ≡ true → soundIn room (removeOutcome sizesRight sound room p number scope .profile) ≡ true
+    pub remove-keeps-sound : soundIn room p ≡ true → soundIn room (removeOutcome sizesRight sound room p number scope .after) ≡ true
     remove-keeps-sound e =
         let h = sound-in-means room p .fact e in
         let nodes-fit : length (removed p number .nodes) ≤ room .nodes = omega (arith, removed-nodes-no-more p number) in

@@ -85,7 +85,7 @@ module _ (p q : Profile) (before : Standing p) (after : Standing q) where
 module _ (sizesRight sound : Bool) (room : Room) (p : Profile) (s : Standing p) where
   -- an insert, accepted or refused, reaches only stretches
   pub insert-reaches-only-stretches : (b : Band) (lo hi : ℕ)
-      → reachesOnlyStretches (b .number) p (insertOutcome sizesRight sound room p b lo hi .profile) ≡ true
+      → reachesOnlyStretches (b .number) p (insertOutcome sizesRight sound room p b lo hi .after) ≡ true
   insert-reaches-only-stretches b lo hi =
       only-stretches-reached p _ s (insert-keeps-standing sizesRight sound room p b lo hi s) (b .number)
       (insert-keeps (SameBut (λ c. c .number ≡ b .number) p) sizesRight sound room p b lo hi
@@ -94,7 +94,7 @@ module _ (sizesRight sound : Bool) (room : Room) (p : Profile) (s : Standing p) 
 
   -- a remove, accepted or refused, reaches only stretches
   pub remove-reaches-only-stretches : (number scope : ℕ)
-      → reachesOnlyStretches number p (removeOutcome sizesRight sound room p number scope .profile) ≡ true
+      → reachesOnlyStretches number p (removeOutcome sizesRight sound room p number scope .after) ≡ true
   remove-reaches-only-stretches number scope =
       only-stretches-reached p _ s (remove-keeps-standing sizesRight sound room p number scope s) number
       (remove-keeps (SameBut (λ c. c .number ≡ number) p) sizesRight sound room p number scope

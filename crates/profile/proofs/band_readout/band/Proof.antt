@@ -8,12 +8,13 @@ use mathlib.Core.Option.{some}
 use native.Mathlib.Omega.{arith}
 use borrow.Author.Needs.{needs}
 use borrow.Author.Tests.{not-true, not-false}
+use Rattle.rules.specs.Connectives.{saysYes}
 use Rattle.rules.specs.Readouts.{bandReadOf}
 use Rattle.rules.specs.BoxSaysNo.{saying}
 use Rattle.store.specs.Sizes.{sizesRight}
 use Rattle.store.specs.Memory.{lent, lengthsIn}
 use Rattle.store.specs.Places.{bandField, scopeField, lowField, highField, lowClosedField, highClosedField}
-use Rattle.store.specs.SaidProfile.{saysYes, saidBand}
+use Rattle.store.specs.SaidProfile.{saidBand}
 use Rattle.profile.proofs.CallLines.{band-by-1, band-by-3, band-by-9, band-read}
 use Rattle.profile.proofs.band_readout.band.Statement.{statement}
 use Rattle.profile.proofs.band_readout.band.Tie as tie

@@ -5,9 +5,10 @@ use borrow.Author.Needs.{needs}
 use borrow.Author.Tests.{not-true, not-false}
 use lib.ListN.{set}
 use Rattle.rules.specs.NodesLanesEdges.{lanes}
-use Rattle.store.specs.Memory.{Memory, lent}
+use Rattle.rules.specs.BoxSaysNo.{leaving}
+use Rattle.store.specs.Memory.{lent}
 use Rattle.profile.proofs.CallLines.{empty-by-1, emptied}
-use Rattle.profile.proofs.EmptyMemory.{empty-memory, lane-count-within}
+use Rattle.profile.proofs.EmptyWords.{empty-memory, lane-count-within}
 use Rattle.profile.proofs.emptying.empty.Statement.{statement}
 use Rattle.profile.proofs.emptying.empty.Tie as tie
 
@@ -35,6 +36,9 @@ clear-requires-2 c κs = search needs
 clear-requires-3 : tie.Need-clear-requires-3
 clear-requires-3 c κs = search needs
 
+cast-nodes : tie.Need-cast-nodes
+cast-nodes c = search needs
+
 slice-write-nodes : tie.Need-slice-write-nodes
 slice-write-nodes c =
     let cleared = c .before .before .before .before .before .before in
@@ -60,8 +64,8 @@ returns-2 c =
     let bands = cleared .before .before .before .before .clear .ensures in
     let nodes = cleared .clear2 .ensures in
     let marks = c .before .before .clear3 .ensures in
-    (λ i. record { refusal = 0; memory = lent (bands i) (set (nodes i) 1 lanes) (marks i) })
-    ∙ ap (λ (m : Memory). record { refusal = 0; memory = m }) (sym (empty-memory _ right))
+    (λ i. leaving 0 (lent (bands i) (set (nodes i) 1 lanes) (marks i)))
+    ∙ ap (leaving 0) (sym (empty-memory _ right))
     ∙ emptied _ right
 
 pub empty-spec : {M : Type 1} → statement M
@@ -76,6 +80,7 @@ empty-spec =
     clear-requires
     clear-requires-2
     clear-requires-3
+    cast-nodes
     slice-write-nodes
     same-length-4
     same-length-5

@@ -4,7 +4,7 @@ use mathlib.Core.Path.{sym, _∙_}
 use borrow.Author.Needs.{needs}
 use borrow.Author.Tests.{not-true, not-false}
 use Rattle.rules.specs.BoxSaysNo.{saying}
-use Rattle.profile.specs.RoomCall.{saidRoom}
+use Rattle.profile.specs.RoomCall.{saidUse}
 use Rattle.profile.proofs.CallLines.{room-by-1, room-read}
 use Rattle.profile.proofs.room_readout.room.Statement.{statement}
 use Rattle.profile.proofs.room_readout.room.Tie as tie
@@ -28,7 +28,7 @@ cast-t12 : tie.Need-cast-t12
 cast-t12 c = search needs
 
 returns-2 : tie.Need-returns-2
-unfolding saidRoom
+unfolding saidUse
 returns-2 c =
     let nodes = c .before .node-word .ensures .0 in
     let marks = c .node-word2 .ensures .0 in

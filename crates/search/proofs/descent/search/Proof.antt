@@ -13,16 +13,19 @@ use Rattle.search.proofs.descent.search.Tie as tie
 
 abbrev Inv-loop : tie.InvT-loop
 Inv-loop nodes marks key k taken₀ looks₀ place₀ lanes lane here₀ taken looks place here =
-    Searching nodes marks key taken looks here (suc lane)
+    Searching nodes marks (key .0) taken looks here (suc lane)
 
 abbrev μ-loop : tie.MeasureT-loop
 μ-loop nodes marks key k taken₀ looks₀ place₀ lanes lane here₀ taken looks place here = mostLooks - looks
 
 abbrev Inv-lanes : tie.InvT-lanes
-Inv-lanes nodes marks key k taken₀ looks₀ place₀ lanes₀ taken looks place lanes = Searching nodes marks key taken looks place lanes
+Inv-lanes nodes marks key k taken₀ looks₀ place₀ lanes₀ taken looks place lanes = Searching nodes marks (key .0) taken looks place lanes
 
 abbrev μ-lanes : tie.MeasureT-lanes
 μ-lanes nodes marks key k taken₀ looks₀ place₀ lanes₀ taken looks place lanes = lanes
+
+cast-k : tie.Need-cast-k Inv-loop μ-loop Inv-lanes μ-lanes
+cast-k c = search needs
 
 nothing-requires : tie.Need-nothing-requires Inv-loop μ-loop Inv-lanes μ-lanes
 nothing-requires c κs = search needs
@@ -51,7 +54,7 @@ node-word-requires-2 c κs = search needs
 -- what was read of the next node
 next : (c : tie.After-node-word2 Inv-loop μ-loop Inv-lanes μ-lanes)
     → NextRead
-    (c .before .before .before .before .before .before .before .before .before .args .nodes .now)
+    (c .before .before .before .before .before .before .before .before .before .before .args .nodes .now)
     (c .before .before .before .loop .here)
     (c .before .before .before .before .before .lanes .lanes - 1)
     (c .before .node-word .result)
@@ -106,9 +109,9 @@ lanes-again-2 c =
 -- where the loop over lanes is left the search still goes, with no lane to go or no look left
 left : (c : tie.Left-lanes Inv-loop μ-loop Inv-lanes μ-lanes)
     → Searching
-    (c .before .before .before .before .before .args .nodes .now)
-    (c .before .before .before .before .before .args .marks .now)
-    (c .before .before .before .before .before .args .key)
+    (c .before .before .before .before .before .before .args .nodes .now)
+    (c .before .before .before .before .before .before .args .marks .now)
+    (c .before .before .before .before .before .before .args .key .0)
     (c .lanes-test .taken)
     (c .lanes-test .looks)
     (c .lanes-test .place)
@@ -123,9 +126,9 @@ left c =
 -- where the lanes are done
 done : (c : tie.Then4 Inv-loop μ-loop Inv-lanes μ-lanes)
     → Searching
-    (c .before .before .before .before .before .before .args .nodes .now)
-    (c .before .before .before .before .before .before .args .marks .now)
-    (c .before .before .before .before .before .before .args .key)
+    (c .before .before .before .before .before .before .before .args .nodes .now)
+    (c .before .before .before .before .before .before .before .args .marks .now)
+    (c .before .before .before .before .before .before .before .args .key .0)
     (c .before .lanes-test .taken)
     (c .before .lanes-test .looks)
     (c .before .lanes-test .place)
@@ -151,6 +154,7 @@ search-spec =
     μ-loop
     Inv-lanes
     μ-lanes
+    cast-k
     nothing-requires
     lanes-holds
     sub-lane

@@ -7,6 +7,9 @@ use Rattle.search.proofs.NextNode.{NextRead, tests-at}
 use Rattle.search.proofs.descent.take_at_end.Statement.{statement}
 use Rattle.search.proofs.descent.take_at_end.Tie as tie
 
+cast-k : tie.Need-cast-k
+cast-k c = search needs
+
 node-word-requires : tie.Need-node-word-requires
 node-word-requires c κs = search needs
 
@@ -16,8 +19,8 @@ node-word-requires-2 c κs = search needs
 -- what was read of the next node
 next : (c : tie.After-node-word2)
     → NextRead
-    (c .before .before .before .before .args .nodes .now)
-    (c .before .before .before .before .args .place)
+    (c .before .before .before .before .before .args .nodes .now)
+    (c .before .before .before .before .before .args .place)
     0
     (c .before .node-word .result)
     (c .node-word2 .result)
@@ -39,4 +42,4 @@ returns-2 c = untaken-where _ _ (tests-at (next (c .before)) _) (c .if1 .left)
 pub take-at-end-spec : {M : Type 1} → statement M
 take-at-end-spec =
     tie.close
-    (tie.spec node-word-requires node-word-requires-2 take-slot-requires returns returns-2)
+    (tie.spec cast-k node-word-requires node-word-requires-2 take-slot-requires returns returns-2)

@@ -14,10 +14,13 @@ use Rattle.search.proofs.finding.place_of.Statement.{statement}
 use Rattle.search.proofs.finding.place_of.Tie as tie
 
 abbrev Inv-loop : tie.InvT-loop
-Inv-loop nodes key in-use places place₀ place = (1 ≤ place) × (placeOn nodes key place ≡ placeOf nodes key)
+Inv-loop nodes k in-use places place₀ place = (1 ≤ place) × (placeOn nodes k place ≡ placeOf nodes k)
 
 abbrev μ-loop : tie.MeasureT-loop
-μ-loop nodes key in-use places place₀ place = placesInUse nodes + 1 - place
+μ-loop nodes k in-use places place₀ place = placesInUse nodes + 1 - place
+
+cast-k : tie.Need-cast-k Inv-loop μ-loop
+cast-k c = search needs
 
 node-word-requires : tie.Need-node-word-requires Inv-loop μ-loop
 node-word-requires c κs = search needs
@@ -28,8 +31,8 @@ loop-holds c = (omega arith, place-from-first _ _)
 -- the loop's test says whether its place is in use
 in-use : (c : tie.At-loop Inv-loop μ-loop)
     → Means
-    (leb (c .loop .place) (c .before .node-word .result) && ltb (c .loop .place) (length (c .before .before .before .args .nodes .now) / 20))
-    (c .loop .place ≤ placesInUse (c .before .before .before .args .nodes .now))
+    (leb (c .loop .place) (c .before .node-word .result) && ltb (c .loop .place) (length (c .before .before .before .before .args .nodes .now) / 20))
+    (c .loop .place ≤ placesInUse (c .before .before .before .before .args .nodes .now))
 in-use c = in-use-means _ _ _ (c .before .node-word .ensures .0) (c .loop .inv .0)
 
 node-word-requires-2 : tie.Need-node-word-requires-2 Inv-loop μ-loop
@@ -69,6 +72,7 @@ place-of-spec =
     (tie.spec
     Inv-loop
     μ-loop
+    cast-k
     node-word-requires
     loop-holds
     node-word-requires-2

@@ -1,8 +1,8 @@
 -- `card::Pass::told` meets its contract: the count is the ones of the flags.
 -- Assumes nothing.
 use borrow.Author.Needs.{needs}
-use Rattle.card.proofs.scanning.Pass.told.Statement.{statement}
-use Rattle.card.proofs.scanning.Pass.told.Tie as tie
+use Rattle.card.proofs.pass.Pass.told.Statement.{statement}
+use Rattle.card.proofs.pass.Pass.told.Tie as tie
 
 count-requires : tie.Need-count-requires
 count-requires c κs = search needs

@@ -7,9 +7,9 @@ use borrow.Author.Tests.{eqb-true, eqb-false, not-true, not-false}
 use Rattle.hall.specs.Says.{answerSays}
 use Rattle.hall.proofs.OneToOne.{no-refusal-says-0}
 use Rattle.card.specs.Pass.{bare}
-use Rattle.card.proofs.Pass.{step-wrong, step-entered, step-told}
-use Rattle.card.proofs.scanning.Pass.step.Statement.{statement}
-use Rattle.card.proofs.scanning.Pass.step.Tie as tie
+use Rattle.card.proofs.PassIsScan.{step-wrong, step-entered, step-told}
+use Rattle.card.proofs.pass.Pass.step.Statement.{statement}
+use Rattle.card.proofs.pass.Pass.step.Tie as tie
 
 is-right-requires : tie.Need-is-right-requires
 is-right-requires c κs = search needs

@@ -7,8 +7,8 @@ use lib.Dec.{eqb}
 use Rattle.hall.specs.Says.{answerSays}
 use Rattle.hall.specs.declared.answers.Answer.{Answer}
 use Rattle.hall.proofs.OneToOne.{no-refusal-says-0}
-use Rattle.card.proofs.scanning.Pass.is_right.Statement.{statement}
-use Rattle.card.proofs.scanning.Pass.is_right.Tie as tie
+use Rattle.card.proofs.pass.Pass.is_right.Statement.{statement}
+use Rattle.card.proofs.pass.Pass.is_right.Tie as tie
 
 enum-told : tie.Need-enum-told
 enum-told c = search needs

@@ -4,8 +4,8 @@ use Prim.Native.Nat.{ℕ}
 use mathlib.Core.Path.{ap, _∙_}
 use borrow.Author.Needs.{needs}
 use Rattle.card.specs.Pass.{bare, beginOf}
-use Rattle.card.proofs.scanning.Pass.begin.Statement.{statement}
-use Rattle.card.proofs.scanning.Pass.begin.Tie as tie
+use Rattle.card.proofs.pass.Pass.begin.Statement.{statement}
+use Rattle.card.proofs.pass.Pass.begin.Tie as tie
 
 fault-requires : tie.Need-fault-requires
 fault-requires c κs = search needs

@@ -5,9 +5,9 @@ use mathlib.Core.Bool.{Bool, cond}
 use borrow.Author.Needs.{needs}
 use Rattle.hall.specs.Says.{answerSays}
 use Rattle.hall.proofs.OneToOne.{no-refusal-says-0}
-use Rattle.card.proofs.Pass.{judged-by-band, judged-by-number}
-use Rattle.card.proofs.scanning.Pass.judge.Statement.{statement}
-use Rattle.card.proofs.scanning.Pass.judge.Tie as tie
+use Rattle.card.proofs.PassIsScan.{judged-by-band, judged-by-number}
+use Rattle.card.proofs.pass.Pass.judge.Statement.{statement}
+use Rattle.card.proofs.pass.Pass.judge.Tie as tie
 
 fault-requires : tie.Need-fault-requires
 fault-requires c κs = search needs

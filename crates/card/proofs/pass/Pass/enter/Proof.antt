@@ -2,8 +2,8 @@
 -- Assumes nothing.
 use borrow.Author.Needs.{needs}
 use Rattle.card.specs.Pass.{enteredOf}
-use Rattle.card.proofs.scanning.Pass.enter.Statement.{statement}
-use Rattle.card.proofs.scanning.Pass.enter.Tie as tie
+use Rattle.card.proofs.pass.Pass.enter.Statement.{statement}
+use Rattle.card.proofs.pass.Pass.enter.Tie as tie
 
 set-requires : tie.Need-set-requires
 set-requires c κs = search needs

@@ -10,7 +10,9 @@ use Rattle.rules.specs.NodesLanesEdges.{lanes}
 use Rattle.rules.specs.Profile.{emptyProfile}
 use Rattle.store.specs.Sizes.{sizesRight}
 use Rattle.store.specs.Memory.{Memory, lent, lengthsIn, roomIn}
-use Rattle.store.specs.LaidMemory.{laidNodes, laidMarks, laidMemory}
+use Rattle.store.specs.LaidNodes.{laidNodes}
+use Rattle.store.specs.LaidMarks.{laidMarks}
+use Rattle.store.specs.LaidMemory.{laidMemory}
 use Rattle.store.proofs.RightSizes.{sizes-in-numbers, right-lengths}
 use Rattle.store.proofs.LaidEmpty.{laid-nodes-none, laid-marks-none}
 use Rattle.store.proofs.LaidBands.{laid-bands-none}
