@@ -10,6 +10,7 @@ use Rattle.rules.specs.NodesLanesEdges.{lanes}
 use Rattle.rules.specs.Profile.{emptyProfile}
 use Rattle.store.specs.Sizes.{sizesRight}
 use Rattle.store.specs.Memory.{Memory, lent, lengthsIn, roomIn}
+use Rattle.store.specs.Places.{laneCountField}
 use Rattle.store.specs.LaidNodes.{laidNodes}
 use Rattle.store.specs.LaidMarks.{laidMarks}
 use Rattle.store.specs.LaidMemory.{laidMemory}
@@ -19,7 +20,7 @@ use Rattle.store.proofs.LaidBands.{laid-bands-none}
 
 pub empty-memory : (m : Memory) → sizesRight (lengthsIn m) ≡ true
     → laidMemory (roomIn m) emptyProfile
-    ≡ lent (replicate (length (m .bands)) 0) (set (replicate (length (m .nodes)) 0) 1 lanes) (replicate (length (m .marks)) 0)
+    ≡ lent (replicate (length (m .bands)) 0) (set (replicate (length (m .nodes)) 0) laneCountField lanes) (replicate (length (m .marks)) 0)
 unfolding laidMemory roomIn
 empty-memory m right =
     let sizes = sizes-in-numbers (length (m .bands)) (length (m .nodes)) (length (m .marks)) .fact right in

@@ -7,6 +7,7 @@ use lib.ListN.{set}
 use Rattle.rules.specs.NodesLanesEdges.{lanes}
 use Rattle.rules.specs.BoxSaysNo.{leaving}
 use Rattle.store.specs.Memory.{lent}
+use Rattle.store.specs.Places.{laneCountField}
 use Rattle.profile.proofs.CallLines.{empty-by-1, emptied}
 use Rattle.profile.proofs.EmptyWords.{empty-memory, lane-count-within}
 use Rattle.profile.proofs.emptying.empty.Statement.{statement}
@@ -64,7 +65,7 @@ returns-2 c =
     let bands = cleared .before .before .before .before .clear .ensures in
     let nodes = cleared .clear2 .ensures in
     let marks = c .before .before .clear3 .ensures in
-    (λ i. leaving 0 (lent (bands i) (set (nodes i) 1 lanes) (marks i)))
+    (λ i. leaving 0 (lent (bands i) (set (nodes i) laneCountField lanes) (marks i)))
     ∙ ap (leaving 0) (sym (empty-memory _ right))
     ∙ emptied _ right
 
