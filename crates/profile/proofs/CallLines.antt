@@ -1,28 +1,29 @@
 -- What each call answers, from plain facts on the memory and its arguments: a law for each place where its code returns.
 -- Assumes nothing.
 use Prim.Native.Nat.{ℕ, _≤_, _<_}
-use mathlib.Core.Path.{_≡_}
+use mathlib.Core.Path.{_≡_, sym, _∙_}
 use mathlib.Core.Bool.{true, false}
+use mathlib.Core.List.{List, _++_}
 use mathlib.Core.Option.{none, some}
-use lib.Dec.{ltb}
 use borrow.Author.Tests.{lt-ltb, le-ltb, eq-eqb, ne-eqb}
-use Rattle.rules.specs.Connectives.{_and_}
 use Rattle.rules.specs.HallLine.{highestKey, highestBandNumber}
-use Rattle.rules.specs.NodesLanesEdges.{lanes}
 use Rattle.rules.specs.Profile.{emptyProfile}
 use Rattle.rules.specs.Readouts.{bandReadOf}
-use Rattle.rules.specs.BoxSaysNo.{leaving, saying, emptyRefusal, stabRefusal, roomReadRefusal, noStab, noEdgeRead, noNodeRead, noRoomRead}
-use Rattle.store.specs.Sizes.{sizesRight}
+use Rattle.rules.specs.BoxSaysNo.{TableLine, lowest, leaving, saying, emptyRefusal, stabLines, stabRefusal, roomReadRefusal, noStab, noEdgeRead, noNodeRead, noRoomRead}
+use Rattle.rules.proofs.BoxSaysNo.{lowest-enough, stab-accepted}
+use Rattle.rules.specs.Room.{mostMarks}
+use Rattle.store.specs.Sizes.{lengthsOf, sizesRight}
 use Rattle.store.specs.Memory.{Memory, lengthsIn, roomIn}
-use Rattle.store.specs.Places.{bandField, liveField, nodeField, levelField}
+use Rattle.store.specs.Places.{bandField, liveField}
 use Rattle.store.specs.SaidProfile.{saidBand}
 use Rattle.store.specs.LaidMemory.{laidMemory}
+use Rattle.store.proofs.RightSizes.{sizes-in-numbers}
 use Rattle.search.specs.Descent.{searchOf}
 use Rattle.search.specs.PlaceOf.{placeOf}
 use Rattle.profile.specs.EmptyCall.{emptyIn}
 use Rattle.profile.specs.StabCall.{stabFound, stabIn}
 use Rattle.profile.specs.BandCall.{bandRefusalIn, bandIn}
-use Rattle.profile.specs.EdgeCall.{edgeRefusalIn, edgeAt, edgeIn}
+use Rattle.profile.specs.EdgeCall.{hasLane, edgeRefusalIn, edgeAt, edgeIn}
 use Rattle.profile.specs.NodeCall.{nodeRefusalIn, nodeAt, nodeIn}
 use Rattle.profile.specs.RoomCall.{saidUse, roomReadIn}
 
@@ -32,21 +33,9 @@ module _ (m : Memory) (wrong : sizesRight (lengthsIn m) ≡ false) where
   unfolding emptyIn emptyRefusal
   empty-by-1 = rw wrong
 
-  pub stab-by-1 : (k : ℕ) → saying 1 noStab ≡ stabIn m k
-  unfolding stabIn stabRefusal
-  stab-by-1 k = rw wrong
-
   pub band-by-1 : (number : ℕ) → saying 1 (bandReadOf none) ≡ bandIn m number
   unfolding bandIn bandRefusalIn
   band-by-1 number = rw wrong
-
-  pub edge-by-1 : (k lane : ℕ) → saying 1 noEdgeRead ≡ edgeIn m k lane
-  unfolding edgeIn edgeRefusalIn
-  edge-by-1 k lane = rw wrong
-
-  pub node-by-1 : (k : ℕ) → saying 1 noNodeRead ≡ nodeIn m k
-  unfolding nodeIn nodeRefusalIn
-  node-by-1 k = rw wrong
 
   pub room-by-1 : saying 1 noRoomRead ≡ roomReadIn m
   unfolding roomReadIn roomReadRefusal
@@ -76,47 +65,57 @@ module _ (m : Memory) (right : sizesRight (lengthsIn m) ≡ true) where
     unfolding bandIn bandRefusalIn
     band-read live = rw (right, le-ltb _ _ in-range, ne-eqb _ _ live)
 
-  -- 4: a key above 2,097,151
-  module _ (k : ℕ) (above : highestKey < k) where
-    pub stab-by-4 : saying 4 noStab ≡ stabIn m k
-    unfolding stabIn stabRefusal
-    stab-by-4 = rw (right, lt-ltb _ _ above)
+-- 1 (sizes) and 4 are judged first where a key is given, and what they give stands
+module _ (m : Memory) (k n : ℕ) (judged : n ≡ stabRefusal (sizesRight (lengthsIn m)) k) (given : n ≡ 0 → ⊥) where
+  pub stab-refused : saying n noStab ≡ stabIn m k
+  unfolding stabIn
+  stab-refused = rw (← judged, ne-eqb n 0 given)
 
-    pub edge-by-4 : (lane : ℕ) → saying 4 noEdgeRead ≡ edgeIn m k lane
+  -- lines after them play no part
+  first-lines : (ls : List TableLine) → lowest (stabLines (sizesRight (lengthsIn m)) k ++ ls) ≡ n
+  unfolding stabRefusal
+  first-lines ls = lowest-enough (stabLines (sizesRight (lengthsIn m)) k) ls (λ z. given (judged ∙ z)) ∙ sym judged
+
+  pub edge-refused : (lane : ℕ) → saying n noEdgeRead ≡ edgeIn m k lane
+  unfolding edgeIn edgeRefusalIn
+  edge-refused lane = rw (first-lines _, ne-eqb n 0 given)
+
+  pub node-refused : saying n noNodeRead ≡ nodeIn m k
+  unfolding nodeIn nodeRefusalIn
+  node-refused = rw (first-lines _, ne-eqb n 0 given)
+
+-- where they give nothing there are no more marks than the largest room has
+pub marks-fit : (b n m k : ℕ) → 0 ≡ stabRefusal (sizesRight (lengthsOf b n m)) k → m ≤ mostMarks
+marks-fit b n m k judged = sizes-in-numbers b n m .fact (stab-accepted (sizesRight (lengthsOf b n m)) k .0 (sym judged) .0) .5
+
+module _ (m : Memory) (k : ℕ) (judged : 0 ≡ stabRefusal (sizesRight (lengthsIn m)) k) where
+  key-accepted : (sizesRight (lengthsIn m) ≡ true) × (k ≤ highestKey)
+  key-accepted = stab-accepted (sizesRight (lengthsIn m)) k .0 (sym judged)
+
+  pub stabbed : saying 0 (stabFound (searchOf (m .nodes) (m .marks) k)) ≡ stabIn m k
+  unfolding stabIn
+  stabbed = rw (← judged)
+
+  -- 13: no node at the key
+  module _ (none : placeOf (m .nodes) k ≡ 0) where
+    pub edge-by-13 : (lane : ℕ) → saying 13 noEdgeRead ≡ edgeIn m k lane
     unfolding edgeIn edgeRefusalIn
-    edge-by-4 lane = rw (right, lt-ltb _ _ above)
+    edge-by-13 lane = rw (key-accepted .0, le-ltb _ _ (key-accepted .1), none)
 
-    pub node-by-4 : saying 4 noNodeRead ≡ nodeIn m k
+    pub node-by-13 : saying 13 noNodeRead ≡ nodeIn m k
     unfolding nodeIn nodeRefusalIn
-    node-by-4 = rw (right, lt-ltb _ _ above)
+    node-by-13 = rw (key-accepted .0, le-ltb _ _ (key-accepted .1), none)
 
-  module _ (k : ℕ) (on-line : k ≤ highestKey) where
-    pub stabbed : saying 0 (stabFound (searchOf (m .nodes) (m .marks) k)) ≡ stabIn m k
-    unfolding stabIn stabRefusal
-    stabbed = rw (right, le-ltb _ _ on-line)
+  module _ (place : ℕ) (at : place ≡ placeOf (m .nodes) k) (some : place ≡ 0 → ⊥) where
+    pub node-read : saying 0 (nodeAt (m .nodes) (m .marks) place) ≡ nodeIn m k
+    unfolding nodeIn nodeRefusalIn
+    node-read = rw (key-accepted .0, le-ltb _ _ (key-accepted .1), ← at, ne-eqb _ _ some)
 
-    -- 13: no node at the key
-    module _ (none : placeOf (m .nodes) k ≡ 0) where
-      pub edge-by-13 : (lane : ℕ) → saying 13 noEdgeRead ≡ edgeIn m k lane
-      unfolding edgeIn edgeRefusalIn
-      edge-by-13 lane = rw (right, le-ltb _ _ on-line, none)
+    -- 13: it has no such lane
+    pub edge-by-13-lane : (lane : ℕ) → hasLane (m .nodes) place lane ≡ false → saying 13 noEdgeRead ≡ edgeIn m k lane
+    unfolding edgeIn edgeRefusalIn
+    edge-by-13-lane lane no-lane = rw (key-accepted .0, le-ltb _ _ (key-accepted .1), ← at, ne-eqb _ _ some, no-lane)
 
-      pub node-by-13 : saying 13 noNodeRead ≡ nodeIn m k
-      unfolding nodeIn nodeRefusalIn
-      node-by-13 = rw (right, le-ltb _ _ on-line, none)
-
-    module _ (place : ℕ) (at : place ≡ placeOf (m .nodes) k) (some : place ≡ 0 → ⊥) where
-      pub node-read : saying 0 (nodeAt (m .nodes) (m .marks) place) ≡ nodeIn m k
-      unfolding nodeIn nodeRefusalIn
-      node-read = rw (right, le-ltb _ _ on-line, ← at, ne-eqb _ _ some)
-
-      -- 13: it has no such lane
-      pub edge-by-13-lane : (lane : ℕ) → (ltb lane lanes and ltb lane (nodeField (m .nodes) place levelField)) ≡ false
-          → saying 13 noEdgeRead ≡ edgeIn m k lane
-      unfolding edgeIn edgeRefusalIn
-      edge-by-13-lane lane no-lane = rw (right, le-ltb _ _ on-line, ← at, ne-eqb _ _ some, no-lane)
-
-      pub edge-read : (lane : ℕ) → (ltb lane lanes and ltb lane (nodeField (m .nodes) place levelField)) ≡ true
-          → saying 0 (edgeAt (m .nodes) (m .marks) place lane) ≡ edgeIn m k lane
-      unfolding edgeIn edgeRefusalIn
-      edge-read lane has-lane = rw (right, le-ltb _ _ on-line, ← at, ne-eqb _ _ some, has-lane)
+    pub edge-read : (lane : ℕ) → hasLane (m .nodes) place lane ≡ true → saying 0 (edgeAt (m .nodes) (m .marks) place lane) ≡ edgeIn m k lane
+    unfolding edgeIn edgeRefusalIn
+    edge-read lane has-lane = rw (key-accepted .0, le-ltb _ _ (key-accepted .1), ← at, ne-eqb _ _ some, has-lane)

@@ -6,6 +6,7 @@ ghost use Rattle.hall.specs.Says.{refusalSays, keySaid, nextSays};
 ghost use Rattle.store.specs.Memory.{lent};
 ghost use Rattle.profile.specs.EdgeCall.{keyAt, edgeIn};
 ghost use Rattle.profile.specs.Says.{edgeReadSays};
+use crate::judging::judge_key;
 use hall::Answer;
 use hall::Key;
 use hall::Next;
@@ -18,31 +19,31 @@ pub struct EdgeRead {
     pub flags: [u64; 16],
 }
 
-// The edge out of the node at a key in a lane. Of the bands only the length is looked at.
+// The edge out of the node at a key in a lane.
 pub fn edge(bands: &[u32], nodes: &[u32], marks: &[u32], key: Key, lane: u32) -> EdgeRead
     ensures { λ r. ⌜ edgeReadSays r ≡ edgeIn (lent (now (bands .entry)) (now (nodes .entry)) (now (marks .entry))) (key .0) lane ⌝ }
 {
-    if !store::sizes_right(bands, nodes, marks) {
-        return refused(Refusal::MemoryUnfit);
-    }
-    if Key::HIGHEST.0 < key.0 {
-        return refused(Refusal::KeyAbove);
-    }
-    let place = search::place_of(nodes, key);
-    if place == 0 {
-        return refused(Refusal::NoNodeOrLane);
-    }
-    let i = lane as usize;
-    let lane_there = (i < store::LANES) & (i < store::node_word(nodes, place, store::LEVEL));
-    if !lane_there {
-        return refused(Refusal::NoNodeOrLane);
-    }
-    let there = search::marked(nodes, marks, place, 1 + i);
-    let flags = there.flags;
-    EdgeRead {
-        answer: Answer::Done,
-        next: key_at(nodes, store::node_word(nodes, place, store::LINKS + i)),
-        flags,
+    match judge_key(bands, nodes, marks, key) {
+        Answer::Refused(refusal) => refused(refusal),
+        Answer::Done => {
+            let place = search::place_of(nodes, key);
+            if place == 0 {
+                return refused(Refusal::NoNodeOrLane);
+            }
+            let i = lane as usize;
+            let level = store::node_word(nodes, place, store::LEVEL);
+            let has_lane = (i < store::LANES) & (i < level);
+            if !has_lane {
+                return refused(Refusal::NoNodeOrLane);
+            }
+            let there = search::marked(nodes, marks, place, 1 + i);
+            let flags = there.flags;
+            EdgeRead {
+                answer: Answer::Done,
+                next: key_at(nodes, store::node_word(nodes, place, store::LINKS + i)),
+                flags,
+            }
+        }
     }
 }
 

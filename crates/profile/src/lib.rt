@@ -2,6 +2,7 @@
 mod band_readout;
 mod edge_readout;
 mod emptying;
+mod judging;
 mod node_readout;
 mod room_readout;
 mod stabbing;

@@ -5,6 +5,7 @@ ghost use Rattle.hall.specs.Says.{refusalSays};
 ghost use Rattle.store.specs.Memory.{lent};
 ghost use Rattle.profile.specs.NodeCall.{nodeIn};
 ghost use Rattle.profile.specs.Says.{nodeReadSays};
+use crate::judging::judge_key;
 use hall::Answer;
 use hall::Key;
 use hall::Refusal;
@@ -16,26 +17,25 @@ pub struct NodeRead {
     pub flags: [u64; 16],
 }
 
-// The node at a key. Of the bands only the length is looked at.
+// The node at a key.
 pub fn node(bands: &[u32], nodes: &[u32], marks: &[u32], key: Key) -> NodeRead
     ensures { λ r. ⌜ nodeReadSays r ≡ nodeIn (lent (now (bands .entry)) (now (nodes .entry)) (now (marks .entry))) (key .0) ⌝ }
 {
-    if !store::sizes_right(bands, nodes, marks) {
-        return refused(Refusal::MemoryUnfit);
-    }
-    if Key::HIGHEST.0 < key.0 {
-        return refused(Refusal::KeyAbove);
-    }
-    let place = search::place_of(nodes, key);
-    if place == 0 {
-        return refused(Refusal::NoNodeOrLane);
-    }
-    let there = search::marked(nodes, marks, place, 0);
-    let flags = there.flags;
-    NodeRead {
-        answer: Answer::Done,
-        level: store::node_word(nodes, place, store::LEVEL) as u32,
-        flags,
+    match judge_key(bands, nodes, marks, key) {
+        Answer::Refused(refusal) => refused(refusal),
+        Answer::Done => {
+            let place = search::place_of(nodes, key);
+            if place == 0 {
+                return refused(Refusal::NoNodeOrLane);
+            }
+            let there = search::marked(nodes, marks, place, 0);
+            let flags = there.flags;
+            NodeRead {
+                answer: Answer::Done,
+                level: store::node_word(nodes, place, store::LEVEL) as u32,
+                flags,
+            }
+        }
     }
 }
 

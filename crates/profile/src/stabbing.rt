@@ -5,6 +5,7 @@ ghost use Rattle.hall.specs.Says.{refusalSays};
 ghost use Rattle.store.specs.Memory.{lent};
 ghost use Rattle.profile.specs.StabCall.{stabIn};
 ghost use Rattle.profile.specs.Says.{stabSays};
+use crate::judging::judge_key;
 use hall::Answer;
 use hall::Key;
 use hall::Refusal;
@@ -23,21 +24,20 @@ pub struct StabRead {
 pub fn stab(bands: &[u32], nodes: &[u32], marks: &[u32], key: Key) -> StabRead
     ensures { λ r. ⌜ stabSays r ≡ stabIn (lent (now (bands .entry)) (now (nodes .entry)) (now (marks .entry))) (key .0) ⌝ }
 {
-    if !store::sizes_right(bands, nodes, marks) {
-        return refused(Refusal::MemoryUnfit);
-    }
-    if Key::HIGHEST.0 < key.0 {
-        return refused(Refusal::KeyAbove);
-    }
-    let found = search::search(nodes, marks, key);
-    let taken = found.taken;
-    let flags = taken.flags;
-    StabRead {
-        answer: Answer::Done,
-        flags,
-        count: flags::count(&flags),
-        met: taken.met,
-        looks: found.looks,
+    match judge_key(bands, nodes, marks, key) {
+        Answer::Refused(refusal) => refused(refusal),
+        Answer::Done => {
+            let found = search::search(nodes, marks, key);
+            let taken = found.taken;
+            let flags = taken.flags;
+            StabRead {
+                answer: Answer::Done,
+                flags,
+                count: flags::count(&flags),
+                met: taken.met,
+                looks: found.looks,
+            }
+        }
     }
 }
 

@@ -4,6 +4,7 @@ ghost use Prim.Native.Nat.{_+_, _≤_, _<_, _^_};
 ghost use mathlib.Core.List.{[]};
 ghost use lib.ListN.{length};
 ghost use Rattle.rules.specs.NodesLanesEdges.{lanes};
+ghost use Rattle.rules.specs.Room.{mostMarks};
 ghost use Rattle.store.specs.SaidMarks.{between, saidMarks};
 ghost use Rattle.search.specs.Found.{withTaken, takenOf};
 
@@ -46,7 +47,7 @@ pub(crate) fn take_slot(
 
 // What is marked in a slot.
 pub fn marked(nodes: &[u32], marks: &[u32], place: usize, slot: usize) -> Taken
-    requires { ⌜ (place < 2 ^ 32) × (slot ≤ lanes) × (length (now marks) < 2 ^ 32) ⌝ }
+    requires { ⌜ (place < 2 ^ 32) × (slot ≤ lanes) × (length (now marks) ≤ mostMarks) ⌝ }
     ensures { λ r. ⌜ r ≡ takenOf (saidMarks (now (nodes .entry)) (now (marks .entry)) place slot) ⌝ }
 {
     take_slot(nodes, marks, place, slot, nothing())

@@ -1,23 +1,19 @@
--- `profile::stabbing::stab` meets its contract: at each `return` the tests that led there say which line is the lowest that applies.
+-- `profile::stabbing::stab` meets its contract: what was judged of sizes and key stands, and else it is what the search finds.
 -- Assumes nothing.
 use Prim.Native.Nat.{ℕ}
 use mathlib.Core.Path.{_≡_, sym, ap, _∙_}
-use mathlib.Core.Bool.{true}
-use native.Mathlib.Omega.{arith}
 use lib.Count.{ones}
 use borrow.Author.Needs.{needs}
-use borrow.Author.Tests.{not-true, not-false}
 use Rattle.rules.specs.Lists.{sumOf}
 use Rattle.rules.specs.BoxSaysNo.{saying}
 use Rattle.rules.proofs.Flags.{ones-of-flags}
-use Rattle.store.specs.Sizes.{sizesRight}
-use Rattle.store.specs.Memory.{lent, lengthsIn}
-use Rattle.store.proofs.RightSizes.{sizes-in-numbers}
+use Rattle.hall.specs.Says.{answerSays}
+use Rattle.hall.proofs.OneToOne.{no-refusal-says-0}
 use Rattle.search.specs.Descent.{Descent}
 use Rattle.search.specs.Found.{foundOf}
 use Rattle.search.specs.declared.descent.Found.{Found}
 use Rattle.profile.specs.StabCall.{stabFound}
-use Rattle.profile.proofs.CallLines.{stab-by-1, stab-by-4, stabbed}
+use Rattle.profile.proofs.CallLines.{stab-refused, marks-fit, stabbed}
 use Rattle.profile.proofs.stabbing.stab.Statement.{statement}
 use Rattle.profile.proofs.stabbing.stab.Tie as tie
 
@@ -28,55 +24,43 @@ found-counted found d count same sum =
     let counted = sum ∙ ap (λ f. sumOf ones (f .taken .flags)) same ∙ ones-of-flags (d .taken) in
     λ i. record { flags = same i .taken .flags; count = counted i; met = same i .taken .met; looks = same i .looks }
 
-sizes-right-requires : tie.Need-sizes-right-requires
-sizes-right-requires c κs = search needs
+judge-key-requires : tie.Need-judge-key-requires
+judge-key-requires c κs = search needs
+
+enum-known-refusal : tie.Need-enum-known-refusal
+enum-known-refusal c = search needs
 
 refused-requires : tie.Need-refused-requires
 refused-requires c κs = search needs
 
-returns : tie.Need-returns
-returns c =
-    c .refused .ensures ∙ stab-by-1 _ (sym (c .before .before .sizes-right .ensures) ∙ not-true _ (c .before .if1 .taken)) _
-
--- past the first test the sizes are right
-right : (c : tie.Else1)
-    → sizesRight
-    (lengthsIn
-    (lent
-    (c .before .before .before .before .before .args .bands .now)
-    (c .before .before .before .before .before .args .nodes .now)
-    (c .before .before .before .before .before .args .marks .now)))
-    ≡ true
-right c = sym (c .before .sizes-right .ensures) ∙ not-false _ (c .if1 .left)
-
-refused-requires-2 : tie.Need-refused-requires-2
-refused-requires-2 c κs = search needs
-
-returns-2 : tie.Need-returns-2
-returns-2 c =
-    c .refused2 .ensures ∙ stab-by-4 _ (right (c .before .before .before .before)) _ (omega arith)
+enum-told : tie.Need-enum-told
+enum-told c = search needs
 
 search-requires : tie.Need-search-requires
-search-requires c κs =
-    sizes-in-numbers _ _ _ .fact (right (c .before .before .before)) .5
+search-requires c κs = marks-fit _ _ _ _ (sym (ap answerSays (c .enum-told .given .1)) ∙ c .before .before .judge-key .ensures)
 
 count-requires : tie.Need-count-requires
 count-requires c κs = search needs
 
-returns-3 : tie.Need-returns-3
-returns-3 c =
-    let found = c .before .before .before .before in
-    ap (saying 0) (found-counted _ _ _ (found .search .ensures) (c .count .ensures .sum)) ∙ stabbed _ (right (found .before .before .before .before)) _ (omega arith)
+returns : tie.Need-returns
+returns c =
+    let stays = sym (ap answerSays (c .before .before .refusal .given .1)) ∙ c .before .before .before .before .judge-key .ensures in
+    c .refused .ensures ∙ stab-refused _ _ _ stays (no-refusal-says-0 (c .before .before .refusal .given .0 .0))
+
+returns-2 : tie.Need-returns-2
+returns-2 c =
+    ap (saying 0) (found-counted _ _ _ (c .before .before .before .before .search .ensures) (c .count .ensures .sum))
+    ∙ stabbed _ _ (sym (ap answerSays (c .before .before .before .before .before .enum-told .given .1)) ∙ c .before .before .before .before .before .before .before .judge-key .ensures)
 
 pub stab-spec : {M : Type 1} → statement M
 stab-spec =
     tie.close
     (tie.spec
-    sizes-right-requires
+    judge-key-requires
+    enum-known-refusal
     refused-requires
-    returns
-    refused-requires-2
-    returns-2
+    enum-told
     search-requires
     count-requires
-    returns-3)
+    returns
+    returns-2)
