@@ -1,6 +1,6 @@
 -- The card's records over parallel slices of numbers, one slice for each field: as many records as the shortest slice has.
 -- Assumes nothing.
-use Prim.Native.Nat.{ℕ, zero, suc, _+_, min}
+use Prim.Native.Nat.{ℕ, zero, suc, min}
 use mathlib.Core.List.{List, [], _∷_}
 use lib.ListN.{length, getD}
 use Rattle.rules.specs.Connectives.{saysYes}
@@ -33,7 +33,7 @@ recordAt f i =
 -- m records from index i on
 abbrev pub recordsFrom : Fields → ℕ → ℕ → List Band
 recordsFrom f i zero = []
-recordsFrom f i (suc m) = recordAt f i ∷ recordsFrom f (i + 1) m
+recordsFrom f i (suc m) = recordAt f i ∷ recordsFrom f (suc i) m
 
 -- the length of the shortest slice
 unfoldable pub shortest : Fields → ℕ

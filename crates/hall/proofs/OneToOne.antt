@@ -69,30 +69,21 @@ no-refusal-says-0 r e =
     let never : _≡_ {A = ℕ} 0 1 = cc in
     omega arith
 
--- the value that says this, where one does
-nextOf : MaybeKey → Next
-nextOf m = cond (eqb (m .given) 0) Next.None (Next.Key (record { 0 = m .key }))
+-- the value that says this key, or none
+nextOf : Option ℕ → Next
+nextOf none = Next.None
+nextOf (some k) = Next.Key (record { 0 = k })
 
-next-found : (n : Next) → nextOf (nextSays n) ≡ n
+next-found : (n : Next) → nextOf (keySaid (nextSays n)) ≡ n
 unfolding nextOf
 next-found Next.None = refl
 next-found (Next.Key k) = refl
 
-pub next-one-to-one : (a b : Next) → nextSays a ≡ nextSays b → a ≡ b
-next-one-to-one = read-back nextSays nextOf next-found
-
--- the same of the key that is said
-nextWith : Option ℕ → Next
-nextWith none = Next.None
-nextWith (some k) = Next.Key (record { 0 = k })
-
-next-told : (n : Next) → nextWith (keySaid (nextSays n)) ≡ n
-unfolding nextWith
-next-told Next.None = refl
-next-told (Next.Key k) = refl
-
 pub next-key-one-to-one : (a b : Next) → keySaid (nextSays a) ≡ keySaid (nextSays b) → a ≡ b
-next-key-one-to-one = read-back (λ n. keySaid (nextSays n)) nextWith next-told
+next-key-one-to-one = read-back (λ n. keySaid (nextSays n)) nextOf next-found
+
+pub next-one-to-one : (a b : Next) → nextSays a ≡ nextSays b → a ≡ b
+next-one-to-one a b e = next-key-one-to-one a b (ap keySaid e)
 
 -- the value that says this, where one does
 madeOf : MaybeKey → Made

@@ -1,70 +1,48 @@
 -- The edge readout on words that lay a standing profile, with a place for each of its nodes, is the rules' own.
 -- Assumes nothing.
-use Prim.Native.Nat.{ℕ, suc, _≤_, _<_, _-_, _/_}
-use mathlib.Core.Path.{_≡_, refl, sym, _∙_}
-use mathlib.Core.Bool.{Bool, true, false}
-use mathlib.Core.Logic.{_↔_}
-use mathlib.Core.List.{List, [], _∷_}
-use mathlib.Core.Option.{Option, none, some}
+use Prim.Native.Nat.{ℕ, suc, _+_, _≤_, _<_, _-_, _/_}
+use mathlib.Core.Path.{_≡_, sym, _∙_}
+use mathlib.Core.Bool.{Bool}
+use mathlib.Core.Logic.{⊎-elim}
+use mathlib.Core.List.{List, _∷_}
 use native.Mathlib.Omega.{arith}
 use lib.Dec.{ltb}
 use lib.ListN.{length, drop}
 use borrow.Author.Tests.{ne-eqb}
 use Rattle.rules.specs.Connectives.{_and_}
 use Rattle.rules.specs.Lists.{firstOf}
-use Rattle.rules.specs.NodesLanesEdges.{Node, lanes, takesPart, laneOf, standsAt}
+use Rattle.rules.specs.NodesLanesEdges.{Node, lanes, laneOf, standsAt}
 use Rattle.rules.specs.Profile.{Profile}
-use Rattle.rules.specs.Readouts.{nextIn, edgeRead}
+use Rattle.rules.specs.Readouts.{edgeRead}
 use Rattle.rules.specs.BoxSaysNo.{noEdgeRead, edgeReadRefusal, edgeReadAnswer}
 use Rattle.rules.proofs.Means.{never, and-means, lt-means, same-means}
-use Rattle.rules.proofs.Lists.{in-at-place}
-use Rattle.rules.proofs.NodesLanesEdges.{takes-part-means, stands-at-means}
-use Rattle.rules.proofs.Readouts.{next-by-edge}
+use Rattle.rules.proofs.Lists.{in-at-place, rest-follows}
+use Rattle.rules.proofs.NodesLanesEdges.{takes-part-means, stands-at-means, level-at-place}
 use Rattle.rules.proofs.BoxSaysNo.{edge-accepted, same-answered}
 use Rattle.rules.proofs.SoundMemory.{Standing}
-use Rattle.rules.proofs.Theory.EdgesNest.{in-own-lane}
-use Rattle.rules.proofs.Theory.EdgesOut.{edge-here}
+use Rattle.rules.proofs.Theory.EdgesOut.{next-at-place}
 use Rattle.store.specs.Sizes.{nodePlaceWords, sizesRight}
 use Rattle.store.specs.Memory.{Memory, lengthsIn}
 use Rattle.store.specs.LaidNodes.{nextPlace}
 use Rattle.store.proofs.Lays.{Lays}
-use Rattle.store.proofs.Suffixes.{rest-follows}
+use Rattle.store.proofs.LinkMarks.{link-marks}
+use Rattle.store.proofs.NextInLane.{None, Next, none-or-next, next-there}
 use Rattle.search.specs.Descent.{nextOf}
 use Rattle.search.specs.PlaceOf.{placeOf}
 use Rattle.search.proofs.PlaceOnLaid.{PlaceFound, nowhere, at-place, place-on-laid}
-use Rattle.search.proofs.LinkMarks.{link-marks}
 use Rattle.profile.specs.EdgeCall.{edgeRefusalIn, keyAt, edgeAt, edgeIn}
-use Rattle.profile.proofs.NodeOnLaid.{level-at-place}
 
--- ---- the next node
-
-same-option : (a b : Option ℕ) → ((y : ℕ) → (a ≡ some y) ↔ (b ≡ some y)) → a ≡ b
-same-option none none h = refl
-same-option none (some y) h = h y .1 refl
-same-option (some x) b h = sym (h x .0 refl)
-
--- the next node after a node in a lane of its own is the lane's first after it
-next-at-place : {p : Profile} → Standing p → (j : ℕ) (n : Node) (rest : List Node) → drop j (p .nodes) ≡ n ∷ rest → (i : ℕ) → i < n .level
-    → nextIn p (n .key) i ≡ firstOf (laneOf i rest)
-next-at-place {p} s j n rest at i part =
-    same-option (nextIn p (n .key) i) (firstOf (laneOf i rest))
-    (λ y. let e = next-by-edge p (n .key) i 0 (s .keys-ascend) y (in-own-lane i n (p .nodes) (in-at-place j (p .nodes) at) part) in
-    let o = edge-here (p .nodes) (s .keys-ascend) i j n rest at y in
-    (λ f. o .1 (e .0 f) .1, λ f. e .1 (o .0 (part, f))))
-
-module _ {p : Profile} {nodes marks : List ℕ} (l : Lays p nodes marks) (i : ℕ) where
-  -- the link to the lane's first node, of those from place j + 1 on, leads to its key
-  first-key : (j : ℕ) (ms : List Node) → drop j (p .nodes) ≡ ms → keyAt nodes (nextPlace i (suc j) ms) ≡ firstOf (laneOf i ms)
-  unfolding keyAt
-  first-key j [] at = refl
-  first-key j (n ∷ rest) at = go (takesPart i n) refl (first-key (suc j) rest (rest-follows j (p .nodes) at))
-    where
-      go : (t : Bool) → takesPart i n ≡ t → keyAt nodes (nextPlace i (suc (suc j)) rest) ≡ firstOf (laneOf i rest)
-          → keyAt nodes (nextPlace i (suc j) (n ∷ rest)) ≡ firstOf (laneOf i (n ∷ rest))
-      go true e f = rw (e, ne-eqb (suc j) 0 (λ z. omega arith), l .key j n rest at)
-      go false e f = rw e f
-
--- ---- the answer
+-- the link to the lane's first node, of those from place j + 1 on, leads to its key
+first-key : {p : Profile} {nodes marks : List ℕ} → Lays p nodes marks → (i j : ℕ) (ms : List Node) → drop j (p .nodes) ≡ ms
+    → keyAt nodes (nextPlace i (suc j) ms) ≡ firstOf (laneOf i ms)
+unfolding keyAt
+first-key {p} l i j ms at =
+    ⊎-elim
+    (λ (x : None i ms). rw (x .link j, x .lane))
+    (λ (x : Next i ms).
+    let key = l .key (j + x .skipped) (x .node) (x .rest) (next-there x j (p .nodes) at) in
+    rw (x .link j, x .lane, ne-eqb (suc (j + x .skipped)) 0 (λ z. omega arith), key))
+    (none-or-next i ms)
 
 -- where a level is at most 8, a lane below it is one of the eight
 within-lanes : (i h : ℕ) → h ≤ lanes → ltb i lanes and ltb i h ≡ ltb i h
@@ -86,7 +64,7 @@ module _ (p : Profile) (m : Memory) (l : Lays p (m .nodes) (m .marks)) (s : Stan
           first-key l i (suc j) rest (rest-follows j (p .nodes) at),
           l .slot j n rest at (suc i) (omega (arith, top)),
           link-marks p i n rest part,
-          next-at-place s j n rest at i part,
+          next-at-place p (s .keys-ascend) i j n rest at part,
         )
 
   module _ (k lane : ℕ) where
@@ -98,7 +76,7 @@ module _ (p : Profile) (m : Memory) (l : Lays p (m .nodes) (m .marks)) (s : Stan
     same-refusal (at-place j n rest at f e t) =
         let level = l .level j n rest at in
         let within = within-lanes lane (n .level) (top j n rest at) in
-        rw (e, t, ← f, level, level-at-place s j n rest at, within, ne-eqb (suc j) 0 (λ z. omega arith))
+        rw (e, t, ← f, level, level-at-place 0 j (p .nodes) (s .keys-ascend) n rest at, within, ne-eqb (suc j) 0 (λ z. omega arith))
 
     -- where none does, the same is read
     edge-found : (right : Bool) → PlaceFound (p .nodes) k (placeOf (m .nodes) k) (standsAt k (p .nodes)) → edgeReadRefusal right p k lane ≡ 0
@@ -106,7 +84,7 @@ module _ (p : Profile) (m : Memory) (l : Lays p (m .nodes) (m .marks)) (s : Stan
     edge-found right (nowhere e f) z = never (sym f ∙ stands-at-means k (p .nodes) .test (edge-accepted right p k lane .0 z .1 .1 .0))
     edge-found right (at-place j n rest at f e t) z =
         let below = edge-accepted right p k lane .0 z .1 .1 .1 in
-        rw (e, ← f) (edge-at-place j n rest at lane (rw (← f, level-at-place s j n rest at) at below))
+        rw (e, ← f) (edge-at-place j n rest at lane (rw (← f, level-at-place 0 j (p .nodes) (s .keys-ascend) n rest at) at below))
 
   pub edge-on-laid : length (p .nodes) ≤ length (m .nodes) / nodePlaceWords - 1 → (k lane : ℕ)
       → edgeIn m k lane ≡ edgeReadAnswer (sizesRight (lengthsIn m)) p k lane

@@ -8,13 +8,12 @@ use native.Mathlib.Omega.{arith}
 use lib.ListN.{length, drop}
 use borrow.Author.Tests.{ne-eqb}
 use Rattle.rules.specs.Connectives.{saysYes}
-use Rattle.rules.specs.NodesLanesEdges.{Node, standsAt, levelAt}
+use Rattle.rules.specs.NodesLanesEdges.{Node, standsAt}
 use Rattle.rules.specs.Profile.{Profile}
 use Rattle.rules.specs.Readouts.{nodeRead}
 use Rattle.rules.specs.BoxSaysNo.{noNodeRead, nodeReadRefusal, nodeReadAnswer}
 use Rattle.rules.proofs.Means.{never}
-use Rattle.rules.proofs.Lists.{in-at-place}
-use Rattle.rules.proofs.NodesLanesEdges.{stands-at-means, level-there}
+use Rattle.rules.proofs.NodesLanesEdges.{stands-at-means, level-at-place}
 use Rattle.rules.proofs.BoxSaysNo.{node-accepted, same-answered}
 use Rattle.rules.proofs.SoundMemory.{Standing}
 use Rattle.store.specs.Sizes.{nodePlaceWords, sizesRight}
@@ -30,15 +29,10 @@ found-where : {ns : List Node} {k place : ℕ} {stands : Bool} → PlaceFound ns
 found-where (nowhere e s) = rw (e, s)
 found-where (at-place j n rest at f e s) = rw (e, s, ne-eqb (suc j) 0 (λ z. omega arith))
 
--- the level at a node's key is the node's
-pub level-at-place : {p : Profile} → Standing p → (j : ℕ) (n : Node) (rest : List Node) → drop j (p .nodes) ≡ n ∷ rest
-    → levelAt (n .key) (p .nodes) ≡ n .level
-level-at-place {p} s j n rest at = level-there 0 (p .nodes) (s .keys-ascend) n (in-at-place j (p .nodes) at)
-
 module _ (p : Profile) (m : Memory) (l : Lays p (m .nodes) (m .marks)) (s : Standing p) where
   node-at-place : (j : ℕ) (n : Node) (rest : List Node) → drop j (p .nodes) ≡ n ∷ rest → nodeAt (m .nodes) (m .marks) (suc j) ≡ nodeRead p (n .key)
   unfolding nodeAt nodeRead slotMarks
-  node-at-place j n rest at = rw (l .level j n rest at, l .slot j n rest at 0 (omega arith), level-at-place s j n rest at)
+  node-at-place j n rest at = rw (l .level j n rest at, l .slot j n rest at 0 (omega arith), level-at-place 0 j (p .nodes) (s .keys-ascend) n rest at)
 
   -- where nothing refuses, the same is read
   node-found : (right : Bool) (k : ℕ) → PlaceFound (p .nodes) k (placeOf (m .nodes) k) (standsAt k (p .nodes)) → nodeReadRefusal right p k ≡ 0

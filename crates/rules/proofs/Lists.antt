@@ -6,11 +6,12 @@ use mathlib.Core.Bool.{Bool, true, false, cond}
 use mathlib.Core.Logic.{_↔_, _⊎_, inl, inr, ⊎-elim, ⊎-map}
 use mathlib.Core.List.{List, [], _∷_, _++_, map}
 use mathlib.Core.Option.{none, some}
+use native.Mathlib.Numerals.{add-one}
 use native.Mathlib.Omega.{arith}
-use native.Mathlib.Nat.{eq-or-lt-of-le}
+use native.Mathlib.Nat.{eq-or-lt-of-le, add-zero}
 use lib.Dec.{ltb}
-use lib.ListN.{length, drop}
-use lib.Seq.{drop-nil}
+use lib.ListN.{length, getD, drop, length-drop}
+use lib.Seq.{drop-nil, drop-drop}
 use borrow.Author.Tests.{ltb-true, ltb-false, lt-ltb, le-ltb}
 use Rattle.rules.specs.Connectives.{oneIf}
 use Rattle.rules.specs.Lists.{addIf, any, all, keep, firstOf, countIf, member, distinct, someLane, placed, sameNumbers}
@@ -243,6 +244,33 @@ pub in-at-place : {A : Type 0} (j : ℕ) (xs : List A) {x : A} {rest : List A} �
 in-at-place zero xs {x} at = subst (In x) (sym at) (inl refl)
 in-at-place (suc j) [] {x} at = subst (In x) (sym at) (inl refl)
 in-at-place (suc j) (y ∷ ys) at = inr (in-at-place j ys at)
+
+module _ {A : Type 0} (j : ℕ) (xs : List A) {x : A} {rest : List A} (at : drop j xs ≡ x ∷ rest) where
+  -- the place is within the list
+  pub place-within : j < length xs
+  place-within = omega (arith, length-drop j xs, ap length at)
+
+  -- what follows it stands at the next place
+  pub rest-follows : drop (suc j) xs ≡ rest
+  rest-follows = rw (← add-one j, ← drop-drop 1 j xs, at)
+
+-- ---- a list made element by element, from a function of the index, for the m indexes from i up
+
+module _ {A : Type 0} (f : ℕ → A) (made : ℕ → ℕ → List A) (empty : (i : ℕ) → made i zero ≡ []) (more : (i m : ℕ) → made i (suc m) ≡ f i ∷ made (suc i) m) where
+  pub made-length : (i m : ℕ) → length (made i m) ≡ m
+  made-length i zero = rw empty
+  made-length i (suc m) = rw (more, made-length (suc i) m)
+
+  pub made-at : (d : A) (i m t : ℕ) → t < m → getD (made i m) t d ≡ f (i + t)
+  made-at d i zero t l = absurd (omega arith)
+  made-at d i (suc m) zero l = rw more (ap f (omega arith))
+  made-at d i (suc m) (suc t) l = rw (more, made-at d (suc i) m t (omega arith)) (ap f (omega arith))
+
+  -- from a place on
+  pub made-here : (i m t : ℕ) → t < m → drop t (made i m) ≡ f (i + t) ∷ drop (suc t) (made i m)
+  made-here i zero t l = absurd (omega arith)
+  made-here i (suc m) zero l = rw (more, add-zero)
+  made-here i (suc m) (suc t) l = let moved : i + suc t ≡ suc i + t = omega arith in rw (more, moved) (made-here (suc i) m t (omega arith))
 
 -- ---- lanes
 

@@ -8,12 +8,13 @@ use mathlib.Core.Bool.{Bool, true, false}
 use mathlib.Core.Logic.{_↔_, Iff·trans, _⊎_, inl, inr, ⊎-elim, ⊎-map}
 use mathlib.Core.List.{List, [], _∷_}
 use native.Mathlib.Omega.{arith}
+use lib.ListN.{drop}
 use borrow.Author.Tests.{eq-eqb, ne-eqb}
 use Rattle.rules.specs.Lists.{addIf, placed}
 use Rattle.rules.specs.HallLine.{Band}
 use Rattle.rules.specs.NodesLanesEdges.{Node, Edge, edgeOf, lanes, isLevel, takesPart, laneOf, edgesFrom, edgesAlong, edgesIn, levelAt, standsAt, isEnd, isEndOfSome, endsStand, onlyEndsStand, nodeOf, withNode}
 use Rattle.rules.proofs.Means.{Means, reworded, denied, and-means, or-means, lt-means, le-means, eq-means}
-use Rattle.rules.proofs.Lists.{some-or-none, in-placed, placed-ascends, In, Some, Each, each-cons, any-means, all-means, in-made, Ascends, ascends-lower, ascends-from}
+use Rattle.rules.proofs.Lists.{some-or-none, in-at-place, in-placed, placed-ascends, In, Some, Each, each-cons, any-means, all-means, in-made, Ascends, ascends-lower, ascends-from}
 
 -- a level is 1 to 8
 abbrev pub Level : ℕ → Type 0
@@ -162,6 +163,9 @@ level-there c (m ∷ ms) a n (inl p) = rw (eq-eqb (m .key) (n .key) (ap (λ z. z
 level-there c (m ∷ ms) a n (inr i) =
     let l = ascends-from (λ z. z .key) (suc (m .key)) ms (a .1) n i in
     rw (ne-eqb (m .key) (n .key) (λ e. omega arith)) (level-there (suc (m .key)) ms (a .1) n i)
+
+pub level-at-place : (c j : ℕ) (ns : List Node) → Asc c ns → (n : Node) (rest : List Node) → drop j ns ≡ n ∷ rest → levelAt (n .key) ns ≡ n .level
+level-at-place c j ns a n rest at = level-there c ns a n (in-at-place j ns at)
 
 -- .. and 0 where none stands
 pub level-nowhere : (k : ℕ) (ns : List Node) → Each (λ n. n .key ≡ k → ⊥) ns → levelAt k ns ≡ 0

@@ -2,6 +2,7 @@
 -- the laws build on each other:
 --   EdgesNest         of two edges that overlap, that of the higher lane contains the other; a lane's edges lie end to end
 --   EdgesOut          the edges of a lane are those that lead out of its nodes, each out of one node only
+--   Passed            nodes below a key that are passed on the way to it, and those ahead
 --   LocalMarks        a mark by looking at one edge alone: that of the next lane, or the lowest over the node
 --   MarksInUse        marks in use, the bands' own counts together, are all edge and node marks
 --   OverOnce          one band: marked once over a key that it holds, and never over another
@@ -20,6 +21,7 @@
 --   Alone             a machine's call leaves flags, count and marks met alone at every other machine's keys
 pub mod EdgesNest
 pub mod EdgesOut
+pub mod Passed
 pub mod LocalMarks
 pub mod MarksInUse
 pub mod OverOnce

@@ -22,9 +22,9 @@ use Rattle.rules.proofs.Theory.EdgesNest.{in-lane-zero}
 use Rattle.store.specs.LaidMarks.{slotMarks}
 use Rattle.store.proofs.Lays.{Lays}
 use Rattle.search.specs.Descent.{isAt, takenAtEnd}
-use Rattle.search.proofs.Passed.{below, passed-drop, passed-below, passed-in, at-key-ahead}
-use Rattle.search.proofs.NextInLane.{None, Next, none-or-next, next-there}
-use Rattle.search.proofs.LinksLead.{none-passes, next-passes}
+use Rattle.rules.proofs.Theory.Passed.{below, passed-drop, passed-below, passed-in, at-key-ahead}
+use Rattle.store.proofs.NextInLane.{None, Next, none-or-next, next-there}
+use Rattle.store.proofs.LinksLead.{none-passes, next-passes}
 use Rattle.search.proofs.Stands.{Stands}
 use Rattle.search.proofs.DropOrStep.{next-least}
 

@@ -21,9 +21,9 @@ use Rattle.rules.proofs.Theory.EdgesNest.{in-own-lane}
 use Rattle.store.specs.LaidNodes.{nextPlace}
 use Rattle.store.proofs.Lays.{Lays}
 use Rattle.search.specs.Descent.{nextOf, isBelow}
-use Rattle.search.proofs.Passed.{passed-drop, passed-in, passed-ascends, passed-to}
-use Rattle.search.proofs.NextInLane.{onto, None, Next, none-or-next, next-there}
-use Rattle.search.proofs.LinksLead.{none-passes, next-passes}
+use Rattle.rules.proofs.Theory.Passed.{passed-drop, passed-in, passed-ascends, passed-to}
+use Rattle.store.proofs.NextInLane.{onto, None, Next, none-or-next, next-there}
+use Rattle.store.proofs.LinksLead.{none-passes, next-passes}
 use Rattle.search.proofs.Stands.{Stands, stands-on-node}
 
 -- both drop lane i and then stand where they stood

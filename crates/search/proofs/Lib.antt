@@ -7,11 +7,7 @@
 --   PlaceSteps     going on through the places in use
 -- Where the words lay a profile, finding is the rules' own ..
 --   PlaceOnLaid    the place found is that of the node at the key
---   LinkMarks      the marks of a link's slot are those of the edge there
 -- .. and so is the search, in the order in which the laws build on each other:
---   Passed         nodes below a key that are passed, and those ahead
---   NextInLane     the next node of a lane, as the links and as the paper's search know it
---   LinksLead      tests of the key where a link leads
 --   Stands         where both searches stand alike: at the header, on a node
 --   DropOrStep     from there both drop the lane, or both step on
 --   AfterLaneZero  what both take after lane 0, and how many nodes are behind them then
@@ -22,10 +18,6 @@ pub mod DescendSteps
 pub mod Searching
 pub mod PlaceSteps
 pub mod PlaceOnLaid
-pub mod LinkMarks
-pub mod Passed
-pub mod NextInLane
-pub mod LinksLead
 pub mod Stands
 pub mod DropOrStep
 pub mod AfterLaneZero

@@ -15,7 +15,7 @@ use Rattle.rules.specs.NodesLanesEdges.{Node, standsAt}
 use Rattle.rules.specs.Profile.{Profile}
 use Rattle.store.specs.Sizes.{nodePlaceWords}
 use Rattle.store.proofs.Lays.{Lays}
-use Rattle.store.proofs.Suffixes.{rest-follows}
+use Rattle.rules.proofs.Lists.{rest-follows}
 use Rattle.search.specs.PlaceOf.{placeFrom, placesInUse, placeOf}
 
 -- a place found for key k, and whether a node stands at k: no place and no node, or the place j + 1 of a node of that key

@@ -16,7 +16,7 @@ use Rattle.rules.proofs.Theory.LooksAreSteps.{looks-are-steps}
 use Rattle.store.specs.Places.{header}
 use Rattle.store.proofs.Lays.{Lays}
 use Rattle.search.specs.Descent.{Descent, descentOf, looked, mostLooks, nextOf, descend, searchOf}
-use Rattle.search.proofs.Passed.{below}
+use Rattle.rules.proofs.Theory.Passed.{below}
 use Rattle.search.proofs.Stands.{Stands, stands-at-header}
 use Rattle.search.proofs.DropOrStep.{Drops, Steps, drop-or-step}
 use Rattle.search.proofs.AfterLaneZero.{place-at-end, taken-at-end}

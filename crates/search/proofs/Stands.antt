@@ -13,18 +13,17 @@ use Rattle.rules.specs.Lists.{onlyIf}
 use Rattle.rules.specs.NodesLanesEdges.{Node, lanes, laneOf}
 use Rattle.rules.specs.Profile.{Profile}
 use Rattle.rules.specs.Search.{Spot, spotOf, on, dropTakes, start}
-use Rattle.rules.proofs.Lists.{Each, in-at-place}
+use Rattle.rules.proofs.Lists.{Each, in-at-place, rest-follows}
 use Rattle.rules.proofs.NodesLanesEdges.{Level, takes-part-means}
 use Rattle.rules.proofs.SoundMemory.{Standing}
 use Rattle.store.specs.Places.{header}
 use Rattle.store.specs.LaidNodes.{nextPlace}
 use Rattle.store.proofs.Lays.{Lays}
-use Rattle.store.proofs.Suffixes.{rest-follows}
 use Rattle.search.specs.Descent.{nextOf, isAbove, takenOnDrop}
-use Rattle.search.proofs.LinkMarks.{link-marks}
-use Rattle.search.proofs.Passed.{Passed, none, passed-to}
-use Rattle.search.proofs.NextInLane.{None, Next, none-or-next}
-use Rattle.search.proofs.LinksLead.{none-passes, next-passes}
+use Rattle.store.proofs.LinkMarks.{link-marks}
+use Rattle.rules.proofs.Theory.Passed.{Passed, none, passed-to}
+use Rattle.store.proofs.NextInLane.{None, Next, none-or-next}
+use Rattle.store.proofs.LinksLead.{none-passes, next-passes}
 
 -- a search for k with the lowest m lanes to do, at a place of the words and at a spot of the paper's search
 pub record Stands (p : Profile) (nodes marks : List ℕ) (k m place : ℕ) (at : Spot) : Type 0 where

@@ -12,13 +12,12 @@ use Rattle.rules.specs.Connectives.{oneIf, saysYes}
 use Rattle.rules.specs.HallLine.{Band, bandOf, highestBandNumber}
 use Rattle.rules.specs.Profile.{bandNumbered}
 use Rattle.rules.proofs.Means.{never}
-use Rattle.rules.proofs.Lists.{In, Each, ascends-by-members}
+use Rattle.rules.proofs.Lists.{In, Each, ascends-by-members, made-length, made-at}
 use Rattle.rules.proofs.Profile.{NumbersAsc, numbered-in, numbered}
 use Rattle.store.specs.Sizes.{bandPlaces, bandPlaceWords}
 use Rattle.store.specs.Places.{bandField, liveField, scopeField, lowField, highField, lowClosedField, highClosedField}
 use Rattle.store.specs.SaidProfile.{saidBand, saidBands}
 use Rattle.store.specs.LaidBands.{laidBandField, laidBandsFrom, laidBands}
-use Rattle.store.proofs.WordByWord.{made-length, made-at}
 use Rattle.store.proofs.SaidBands.{saysLive, SaysBand, said-bands-ascend, in-said-bands}
 
 laid-from-none : (q m : ℕ) → laidBandsFrom [] q m ≡ replicate m 0
@@ -43,7 +42,7 @@ module _ (bs : List Band) where
       → getD (laidBands bs) q 0 ≡ laidBandField (bandNumbered (q / bandPlaceWords) bs) (q % bandPlaceWords)
   unfolding laidBands wordAt
   laid-band-word q h =
-      made-at wordAt (laidBandsFrom bs) (λ i. refl) (λ i m. refl) 0 (bandPlaces * bandPlaceWords) q h ∙ ap wordAt (zero-add q)
+      made-at wordAt (laidBandsFrom bs) (λ i. refl) (λ i m. refl) 0 0 (bandPlaces * bandPlaceWords) q h ∙ ap wordAt (zero-add q)
 
   -- the same by number and field
   pub laid-band-field : (b f : ℕ) → b < bandPlaces → f < bandPlaceWords → bandField (laidBands bs) b f ≡ laidBandField (bandNumbered b bs) f

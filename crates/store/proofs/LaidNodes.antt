@@ -18,7 +18,7 @@ use Rattle.store.specs.SaidProfile.{saidNode, saidNodesFrom, saidNodes}
 use Rattle.store.specs.LaidMarks.{slotsMarks, nodeMarks}
 use Rattle.store.specs.LaidNodes.{nextPlace, laidHeader, laidNode, laidNodesFrom, laidNodes}
 use Rattle.store.specs.Padded.{padded}
-use Rattle.store.proofs.Suffixes.{place-within, rest-follows}
+use Rattle.rules.proofs.Lists.{place-within, rest-follows}
 use Rattle.store.proofs.Padded.{padded-length}
 use Rattle.store.proofs.PlaceWords.{header-words, fence-at, record-words}
 use Rattle.store.proofs.LaidMarks.{marksBefore}

@@ -10,14 +10,15 @@
 --   Sound          sound memory in plain facts, and that two of the same lengths and profile are equal
 --   LaidSound      what is laid is sound and says the profile: each that stands and fits has such a memory
 --   MemoryExample  the example of docs/MEMORY.md
--- Suffixes, Padded, WordByWord and PlaceWords have what these are proved with.
+--   LinkMarks      the marks of a link's slot are those of the edge there
+--   NextInLane     the next node of a lane, as the links and as the paper's search know it
+--   LinksLead      tests of the node that a link leads to
+-- Padded and PlaceWords have what these are proved with.
 pub mod RightSizes
 pub mod Memory
 pub mod SaidBands
 pub mod Between
-pub mod Suffixes
 pub mod Padded
-pub mod WordByWord
 pub mod Lays
 pub mod PlaceWords
 pub mod LaidBands
@@ -27,4 +28,7 @@ pub mod LaidLays
 pub mod LaidEmpty
 pub mod Sound
 pub mod LaidSound
+pub mod LinkMarks
+pub mod NextInLane
+pub mod LinksLead
 pub mod MemoryExample

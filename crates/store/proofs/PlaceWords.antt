@@ -12,11 +12,11 @@ use Rattle.rules.specs.NodesLanesEdges.{Node, lanes, takesPart}
 use Rattle.rules.specs.Profile.{Profile}
 use Rattle.rules.specs.Marks.{marksInUse}
 use Rattle.rules.specs.Staircase.{slotsPerNode}
+use Rattle.rules.proofs.Lists.{made-length, made-at}
 use Rattle.store.specs.Sizes.{nodePlaceWords}
 use Rattle.store.specs.Places.{linkField, fenceField}
 use Rattle.store.specs.LaidMarks.{slotMarks, slotsMarks}
 use Rattle.store.specs.LaidNodes.{nextPlace, linksFrom, firstLinksFrom, fencesFrom, laidHeader, laidNode}
-use Rattle.store.proofs.WordByWord.{made-length, made-at}
 
 pub record PlaceWords (words : List ℕ) (link : ℕ → ℕ) (others : List ℕ) : Type 0 where
   pub size : length words ≡ nodePlaceWords
@@ -35,7 +35,7 @@ place-words a b link made none more others ten =
           λ i l.
           getD-append-add (a ∷ b ∷ []) (links ++ others) i 0
           ∙ List·getD-append links others 0 i (omega arith)
-          ∙ made-at link made none more 0 lanes i l
+          ∙ made-at link made none more 0 0 lanes i l
           ∙ rw zero-add;
       other-at =
           λ s.

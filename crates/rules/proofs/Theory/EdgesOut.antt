@@ -6,15 +6,18 @@ use mathlib.Core.Path.{_≡_, refl, sym, ap, subst}
 use mathlib.Core.Bool.{Bool, true, false}
 use mathlib.Core.Logic.{_↔_, _⊎_, inl, inr, ⊎-elim, ⊎-map}
 use mathlib.Core.List.{List, [], _∷_}
-use mathlib.Core.Option.{some}
+use mathlib.Core.Option.{Option, none, some}
 use native.Mathlib.Omega.{arith}
 use lib.ListN.{drop}
 use lib.Seq.{drop-nil}
 use Rattle.rules.specs.Lists.{addIf, firstOf}
 use Rattle.rules.specs.NodesLanesEdges.{Node, Edge, edgeOf, takesPart, laneOf, edgesAlong, edgesIn}
+use Rattle.rules.specs.Profile.{Profile}
+use Rattle.rules.specs.Readouts.{nextIn}
 use Rattle.rules.proofs.Means.{never, at-most-or-above}
-use Rattle.rules.proofs.Lists.{In, Each, at-some-place, ascends-from, ascends-once, first-in, first-least}
+use Rattle.rules.proofs.Lists.{In, Each, at-some-place, in-at-place, ascends-from, ascends-once, first-in, first-least}
 use Rattle.rules.proofs.NodesLanesEdges.{Asc, takes-part-means, in-lane, lane-ascends, edge-rule}
+use Rattle.rules.proofs.Readouts.{next-by-edge}
 use Rattle.rules.proofs.Theory.EdgesNest.{in-own-lane, in-lane-from}
 
 -- ---- the edges of a lane are the edges out of its nodes
@@ -150,3 +153,17 @@ pub edge-here : (ns : List Node) → Asc 0 ns → (i j : ℕ) (n : Node) (rest :
     → ((i < n .level) × (firstOf (laneOf i rest) ≡ some y)) ↔ In (edgeOf (n .key) y) (edgesIn i ns)
 edge-here ns a i j n rest at =
     let f = from-place-ahead ns j 0 ns (all-ahead ns a) in next-edge (subst (Ahead ns (f .0)) at (f .1)) a i
+
+same-option : (a b : Option ℕ) → ((y : ℕ) → (a ≡ some y) ↔ (b ≡ some y)) → a ≡ b
+same-option none none h = refl
+same-option none (some y) h = h y .1 refl
+same-option (some x) b h = sym (h x .0 refl)
+
+-- the next node after a node in a lane of its own is the lane's first after it
+pub next-at-place : (p : Profile) → Asc 0 (p .nodes) → (i j : ℕ) (n : Node) (rest : List Node) → drop j (p .nodes) ≡ n ∷ rest → i < n .level
+    → nextIn p (n .key) i ≡ firstOf (laneOf i rest)
+next-at-place p a i j n rest at part =
+    same-option (nextIn p (n .key) i) (firstOf (laneOf i rest))
+    (λ y. let e = next-by-edge p (n .key) i 0 a y (in-own-lane i n (p .nodes) (in-at-place j (p .nodes) at) part) in
+    let o = edge-here (p .nodes) a i j n rest at y in
+    (λ f. o .1 (e .0 f) .1, λ f. e .1 (o .0 (part, f))))

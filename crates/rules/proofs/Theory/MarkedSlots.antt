@@ -2,13 +2,13 @@
 -- band's marks; and a slot is listed exactly when the rule marks the node or the edge that it stands for.
 -- Assumes nothing.
 use Prim.Native.Nat.{ℕ, zero, suc, _+_, _≤_, _<_}
-use mathlib.Core.Path.{_≡_, refl, sym, ap, subst}
+use mathlib.Core.Path.{_≡_, refl, sym, subst}
 use mathlib.Core.Bool.{Bool, true, false}
 use mathlib.Core.Logic.{_↔_, Iff·trans, _⊎_, ⊎-map}
 use mathlib.Core.List.{List, [], _∷_, _++_}
 use mathlib.Core.Option.{some}
 use native.Mathlib.Omega.{arith}
-use lib.ListN.{length, drop, length-append, length-drop}
+use lib.ListN.{length, drop, length-append}
 use Rattle.rules.specs.Connectives.{_and_, oneIf}
 use Rattle.rules.specs.Lists.{addIf, firstOf, countIf, sumLanes}
 use Rattle.rules.specs.HallLine.{Band}
@@ -16,7 +16,7 @@ use Rattle.rules.specs.NodesLanesEdges.{Node, Edge, edgeOf, lanes, takes
 use Rattle.rules.specs.Marks.{edgeMarked, nodeMarked, edgeMarksIn, marksOf}
 use Rattle.rules.specs.Staircase.{slotNumber, linkMarked, outMarked, markedLinks, markedSlotsFrom, markedSlots}
 use Rattle.rules.proofs.Means.{Means, reworded, itself, and-means}
-use Rattle.rules.proofs.Lists.{In, Some, Ascends, ascends-lower, in-addIf, in-append, SomeLane, some-lane-up, at-some-place}
+use Rattle.rules.proofs.Lists.{In, Some, Ascends, ascends-lower, in-addIf, in-append, SomeLane, some-lane-up, at-some-place, place-within}
 use Rattle.rules.proofs.NodesLanesEdges.{Asc, takes-part-means}
 use Rattle.rules.proofs.Theory.Links.{first-link-means}
 use Rattle.rules.proofs.Theory.EdgesOut.{LeadsOut, edge-out-of, edge-once}
@@ -168,7 +168,7 @@ module _ (ns : List Node) (b : Band) where
     where
       place-below : (j t : ℕ) (ms : List Node) → drop j ns ≡ ms → SlotMarked ns b ms t → j < length ns
       place-below j t [] e m = absurd m
-      place-below j t (n ∷ rest) e m = omega (arith, length-drop j ns, ap length e)
+      place-below j t (n ∷ rest) e m = place-within j ns e
 
   module _ (j : ℕ) (n : Node) (rest : List Node) (at : drop j ns ≡ n ∷ rest) where
     -- a node's slot is listed exactly when the rule marks the node

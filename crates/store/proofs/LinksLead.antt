@@ -12,10 +12,10 @@ use borrow.Author.Tests.{ne-eqb}
 use Rattle.rules.specs.Connectives.{_and_}
 use Rattle.rules.specs.NodesLanesEdges.{Node}
 use Rattle.rules.specs.Profile.{Profile}
 use Rattle.store.specs.Places.{nodeField, keyField}
 use Rattle.store.specs.LaidNodes.{nextPlace}
 use Rattle.store.proofs.Lays.{Lays}
-use Rattle.search.proofs.NextInLane.{None, Next, next-there}
+use Rattle.store.proofs.NextInLane.{None, Next, next-there}
 
 -- a node stands at the place, and its key passes the test
 abbrev pub passesAt : List ℕ → (ℕ → Bool) → ℕ → Bool
