@@ -1,12 +1,12 @@
--- The words from one index up to another: one word more while there is one, then none, and never more than there are.
+-- The words from one index up to another: one word more while there is one, then none, never more than there are; and which they are.
 -- Assumes nothing.
 use Prim.Native.Nat.{ℕ, suc, _+_, _-_, _≤_, _<_, min}
 use native.Mathlib.Omega.{arith}
 use native.Mathlib.Numerals.{add-one}
 use mathlib.Core.Path.{_≡_, refl}
-use mathlib.Core.List.{List, [], _∷_}
+use mathlib.Core.List.{List, [], _∷_, _++_}
 use lib.ListN.{length, getD, length-take, length-drop}
-use lib.Seq.{drop-cons}
+use lib.Seq.{drop-cons, drop-at, take-at}
 use Rattle.store.specs.SaidMarks.{between}
 
 none-of : (words : List ℕ) → length words ≡ 0 → words ≡ []
@@ -27,3 +27,9 @@ none-between from to words h = none-of _ (simp (length-take, length-drop) (omega
 pub between-at-most : (from to : ℕ) (words : List ℕ) → length (between from to words) ≤ length words
 unfolding between
 between-at-most from to words = simp (length-take, length-drop) (omega arith)
+
+-- where it is known what stands before them and what they are
+pub between-at : (words xs ys zs : List ℕ) (from to : ℕ) → words ≡ xs ++ (ys ++ zs) → length xs ≡ from → from + length ys ≡ to
+    → between from to words ≡ ys
+unfolding between
+between-at words xs ys zs from to e f t = rw (e, drop-at xs (ys ++ zs) from f) (take-at ys zs (to - from) (omega arith))

@@ -9,7 +9,6 @@ use native.Mathlib.Omega.{arith}
 use native.Mathlib.Numerals.{add-one}
 use native.Mathlib.Nat.{zero-add, add-zero, suc-add, add-suc}
 use lib.ListN.{length, drop, replicate, length-append}
-use lib.Seq.{drop-at, take-at}
 use Rattle.rules.specs.Lists.{addIf, sumOf}
 use Rattle.rules.specs.HallLine.{Band}
 use Rattle.rules.specs.NodesLanesEdges.{Node, lanes}
@@ -21,6 +20,7 @@ use Rattle.rules.proofs.Theory.MarkedSlots.{slot-count}
 use Rattle.store.specs.SaidMarks.{between}
 use Rattle.store.specs.LaidMarks.{slotMarks, slotsMarks, nodeMarks, laidMarksFrom, laidMarks}
 use Rattle.store.specs.Padded.{padded}
+use Rattle.store.proofs.Between.{between-at}
 use Rattle.store.proofs.Padded.{padded-length}
 
 -- ---- as many as the marks in use
@@ -91,12 +91,6 @@ abbrev pub marksBefore : Profile → ℕ → List Node → List ℕ
 marksBefore p zero ms = []
 marksBefore p (suc j) [] = []
 marksBefore p (suc j) (n ∷ rest) = nodeMarks p n rest ++ marksBefore p j rest
-
--- words between two indexes, where it is known what stands before them and what they are
-between-at : (words xs ys zs : List ℕ) (from to : ℕ) → words ≡ xs ++ (ys ++ zs) → length xs ≡ from → from + length ys ≡ to
-    → between from to words ≡ ys
-unfolding between
-between-at words xs ys zs from to e f t = rw (e, drop-at xs (ys ++ zs) from f) (take-at ys zs (to - from) (omega arith))
 
 marks-from-place : (p : Profile) (j : ℕ) (ms : List Node) → laidMarksFrom p ms ≡ marksBefore p j ms ++ laidMarksFrom p (drop j ms)
 marks-from-place p zero ms = refl
