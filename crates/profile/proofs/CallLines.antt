@@ -6,6 +6,7 @@ use mathlib.Core.Bool.{true, false}
 use mathlib.Core.List.{List, _++_}
 use mathlib.Core.Option.{none, some}
 use borrow.Author.Tests.{lt-ltb, le-ltb, eq-eqb, ne-eqb}
+use Rattle.rules.specs.Connectives.{saysYes}
 use Rattle.rules.specs.HallLine.{highestKey, highestBandNumber}
 use Rattle.rules.specs.Profile.{emptyProfile}
 use Rattle.rules.specs.Readouts.{bandReadOf}
@@ -57,13 +58,14 @@ module _ (m : Memory) (right : sizesRight (lengthsIn m) ≡ true) where
 
   -- 9: number is not live
   module _ (number : ℕ) (in-range : number ≤ highestBandNumber) where
-    pub band-by-9 : bandField (m .bands) number liveField ≡ 0 → saying 9 (bandReadOf none) ≡ bandIn m number
+    pub band-by-9 : saysYes (bandField (m .bands) number liveField) ≡ false → saying 9 (bandReadOf none) ≡ bandIn m number
     unfolding bandIn bandRefusalIn
-    band-by-9 free = rw (right, le-ltb _ _ in-range, eq-eqb _ _ free)
+    band-by-9 free = rw (right, le-ltb _ _ in-range, free)
 
-    pub band-read : (bandField (m .bands) number liveField ≡ 0 → ⊥) → saying 0 (bandReadOf (some (saidBand (m .bands) number))) ≡ bandIn m number
+    pub band-read : saysYes (bandField (m .bands) number liveField) ≡ true
+        → saying 0 (bandReadOf (some (saidBand (m .bands) number))) ≡ bandIn m number
     unfolding bandIn bandRefusalIn
-    band-read live = rw (right, le-ltb _ _ in-range, ne-eqb _ _ live)
+    band-read live = rw (right, le-ltb _ _ in-range, live)
 
 -- 1 (sizes) and 4 are judged first where a key is given, and what they give stands
 module _ (m : Memory) (k n : ℕ) (judged : n ≡ stabRefusal (sizesRight (lengthsIn m)) k) (given : n ≡ 0 → ⊥) where

@@ -29,7 +29,8 @@ use Rattle.store.proofs.LinkMarks.{link-marks}
 use Rattle.store.proofs.NextInLane.{None, Next, none-or-next, next-there}
 use Rattle.search.specs.Descent.{nextOf}
 use Rattle.search.specs.PlaceOf.{placeOf}
-use Rattle.search.proofs.PlaceOnLaid.{PlaceFound, nowhere, at-place, place-on-laid}
+use Rattle.search.proofs.PlaceAmongSaid.{PlaceFound, nowhere, at-place}
+use Rattle.search.proofs.PlaceOnLaid.{place-on-laid}
 use Rattle.profile.specs.EdgeCall.{edgeRefusalIn, keyAt, edgeAt, edgeIn}
 
 -- the link to the lane's first node, of those from place j + 1 on, leads to its key
@@ -91,5 +92,5 @@ module _ (p : Profile) (m : Memory) (l : Lays p (m .nodes) (m .marks)) (s : Stan
   unfolding edgeIn edgeReadAnswer
   edge-on-laid h k lane =
       let right : Bool = sizesRight (lengthsIn m) in
-      let found = place-on-laid l k h in
+      let found = place-on-laid l k h (s .keys-ascend) in
       rw (same-refusal k lane found) (same-answered (edgeReadRefusal right p k lane) noEdgeRead _ _ (edge-found k lane right found))

@@ -11,7 +11,7 @@
 --   OnSound        each stab and readout is the rules' own on the profile that the words say
 --   ByProfile      and depends on nothing else
 -- In plain words:
---   EmptyExact, StabExact, BandExact, EdgeExact, NodeExact, RoomExact
+--   EmptyExact, CheckExact, StabExact, BandExact, EdgeExact, NodeExact, RoomExact
 pub mod CallLines
 pub mod EmptyWords
 pub mod BandOnAny
@@ -24,6 +24,7 @@ pub mod RoomOnLaid
 pub mod OnSound
 pub mod ByProfile
 pub mod EmptyExact
+pub mod CheckExact
 pub mod StabExact
 pub mod BandExact
 pub mod EdgeExact

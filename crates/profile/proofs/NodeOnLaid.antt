@@ -21,7 +21,8 @@ use Rattle.store.specs.Memory.{Memory, lengthsIn}
 use Rattle.store.specs.LaidMarks.{slotMarks}
 use Rattle.store.proofs.Lays.{Lays}
 use Rattle.search.specs.PlaceOf.{placeOf}
-use Rattle.search.proofs.PlaceOnLaid.{PlaceFound, nowhere, at-place, place-on-laid}
+use Rattle.search.proofs.PlaceAmongSaid.{PlaceFound, nowhere, at-place}
+use Rattle.search.proofs.PlaceOnLaid.{place-on-laid}
 use Rattle.profile.specs.NodeCall.{nodeRefusalIn, nodeAt, nodeIn}
 
 -- a place is found exactly where a node stands
@@ -44,5 +45,5 @@ module _ (p : Profile) (m : Memory) (l : Lays p (m .nodes) (m .marks)) (s : Stan
   unfolding nodeIn nodeReadAnswer nodeRefusalIn nodeReadRefusal
   node-on-laid h k =
       let right : Bool = sizesRight (lengthsIn m) in
-      let found = place-on-laid l k h in
+      let found = place-on-laid l k h (s .keys-ascend) in
       rw (found-where found) (same-answered (nodeReadRefusal right p k) noNodeRead _ _ (node-found right k found))

@@ -2,6 +2,7 @@
 -- Assumes nothing.
 use Prim.Native.Nat.{ℕ}
 use mathlib.Core.Path.{_≡_, sym, _∙_, ap}
+use mathlib.Core.Bool.{Bool}
 use mathlib.Core.List.{List}
 use Rattle.rules.specs.Search.{Stab}
 use Rattle.rules.specs.Readouts.{BandRead as RuledBandRead, EdgeRead as RuledEdgeRead, NodeRead as RuledNodeRead, RoomRead as RuledRoomRead}
@@ -26,6 +27,9 @@ empty-settled a b bands nodes marks bands′ nodes′ marks′ e f =
       ap (λ o. o .after .nodes) same,
       ap (λ o. o .after .marks) same,
     )
+
+pub check-settled : {said : Bool} (a b : Bool) → a ≡ said → b ≡ said → a ≡ b
+check-settled a b e f = e ∙ sym f
 
 pub stab-settled : {said : Answered Stab} (a b : StabRead) → stabSays a ≡ said → stabSays b ≡ said → a ≡ b
 stab-settled a b e f =

@@ -33,16 +33,19 @@ pub fn band(bands: &[u32], nodes: &[u32], marks: &[u32], number: u32) -> BandRea
         return refused(Refusal::NumberAbove);
     }
     let place = number as usize;
-    if store::band_word(bands, place, store::LIVE) == 0 {
+    if !store::is_live(bands, place) {
         return refused(Refusal::NumberNotLive);
     }
+    let band = store::band_at(bands, place);
+    let low = band.low;
+    let high = band.high;
     BandRead {
         answer: Answer::Done,
-        scope: store::band_word(bands, place, store::SCOPE) as u32,
-        low: Key(store::band_word(bands, place, store::LOW) as u32),
-        high: Key(store::band_word(bands, place, store::HIGH) as u32),
-        low_closed: store::band_word(bands, place, store::LOW_CLOSED) != 0,
-        high_closed: store::band_word(bands, place, store::HIGH_CLOSED) != 0,
+        scope: band.scope,
+        low,
+        high,
+        low_closed: band.low_closed,
+        high_closed: band.high_closed,
     }
 }
 

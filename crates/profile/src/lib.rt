@@ -1,5 +1,6 @@
 // The box's calls on lent memory.
 mod band_readout;
+mod checking;
 mod edge_readout;
 mod emptying;
 mod judging;
@@ -9,6 +10,7 @@ mod stabbing;
 
 pub use band_readout::BandRead;
 pub use band_readout::band;
+pub use checking::check;
 pub use edge_readout::EdgeRead;
 pub use edge_readout::edge;
 pub use emptying::empty;

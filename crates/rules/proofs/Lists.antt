@@ -1,6 +1,6 @@
 -- What the tests over lists and lanes mean, by membership; places in a list; ascending lists; who stands in a list made of another.
 -- Assumes nothing.
-use Prim.Native.Nat.{ℕ, zero, suc, _+_, _≤_, _<_}
+use Prim.Native.Nat.{ℕ, zero, suc, _+_, _-_, _≤_, _<_}
 use mathlib.Core.Path.{_≡_, refl, sym, _∙_, ap, ap₂, subst, subst⁻¹}
 use mathlib.Core.Bool.{Bool, true, false, cond}
 use mathlib.Core.Logic.{_↔_, _⊎_, inl, inr, ⊎-elim, ⊎-map}
@@ -13,9 +13,9 @@ use lib.Dec.{ltb}
 use lib.ListN.{length, getD, drop, length-drop}
 use lib.Seq.{drop-nil, drop-drop}
 use borrow.Author.Tests.{ltb-true, ltb-false, lt-ltb, le-ltb}
-use Rattle.rules.specs.Connectives.{oneIf}
-use Rattle.rules.specs.Lists.{addIf, any, all, keep, firstOf, countIf, member, distinct, someLane, placed, sameNumbers}
-use Rattle.rules.proofs.Means.{Fails, Means, and-fails, and-means, denied, eq-means, itself, never, not-means, or-fails, or-means, passes-or-fails, reworded}
+use Rattle.rules.specs.Connectives.{_and_, oneIf}
+use Rattle.rules.specs.Lists.{addIf, any, all, keep, firstOf, countIf, member, distinct, someLane, placed, sameNumbers, allFrom}
+use Rattle.rules.proofs.Means.{Fails, Means, and-fails, and-means, and-true, denied, eq-means, itself, never, not-means, or-fails, or-means, passes-or-fails, reworded}
 
 -- ---- lists
 
@@ -185,6 +185,16 @@ in-append x (y ∷ xs) ys =
       ⊎-elim (⊎-map (λ p. p) (λ i. e .1 (inl i))) (λ j. inr (e .1 (inr j))),
     )
 
+-- all pass of two lists joined exactly when all of each do
+pub all-append : {A : Type 0} (f : A → Bool) (xs ys : List A) → all f (xs ++ ys) ≡ all f xs and all f ys
+unfolding _and_
+all-append f [] ys = refl
+all-append f (x ∷ xs) ys = go (f x) (all-append f xs ys)
+  where
+    go : (t : Bool) → all f (xs ++ ys) ≡ all f xs and all f ys → t and all f (xs ++ ys) ≡ (t and all f xs) and all f ys
+    go true e = e
+    go false e = refl
+
 -- who stands in a list with x put somewhere in it, one place further on
 in-later : {A : Type 0} (x y z : A) (ws zs : List A) → In y ws ↔ ((y ≡ x) ⊎ In y zs) → In y (z ∷ ws) ↔ ((y ≡ x) ⊎ In y (z ∷ zs))
 in-later x y z ws zs e = (
@@ -318,6 +328,46 @@ module _ (f : ℕ → Bool) (i n : ℕ) where
 
   pub none-lane : EachLane (λ j. f j ≡ false) i n → someLane f i n ≡ false
   none-lane = lane-fails (λ j. itself (f j)) i n .test
+
+-- ---- going through numbers, as lanes are gone through
+
+module _ {f : ℕ → Bool} {P : ℕ → Type 0} where
+  -- all pass exactly when each is so; what a test means need be known of the numbers gone through alone
+  pub all-from-means : (i n : ℕ) → EachLane (λ j. Means (f j) (P j)) i n → Means (allFrom f i n) (EachLane P i n)
+  all-from-means i zero m = record { fact = λ e j a b. absurd (omega arith); test = λ h. refl }
+  all-from-means i (suc n) m =
+      let s = each-lane-up i n .0 m in
+      reworded (and-means (s .0) (all-from-means (suc i) n (s .1))) (each-lane-up i n .1) (each-lane-up i n .0)
+
+-- tests that agree at each of the numbers
+pub all-from-same : {f g : ℕ → Bool} (i n : ℕ) → EachLane (λ j. f j ≡ g j) i n → allFrom f i n ≡ allFrom g i n
+all-from-same i zero h = refl
+all-from-same i (suc n) h = let s = each-lane-up i n .0 h in ap₂ _and_ (s .0) (all-from-same (suc i) n (s .1))
+
+module _ (f : ℕ → Bool) where
+  -- the last of them apart
+  pub all-from-last : (i n : ℕ) → allFrom f i (suc n) ≡ allFrom f i n and f (i + n)
+  unfolding _and_
+  all-from-last i zero = rw add-zero (and-true (f i))
+  all-from-last i (suc n) = let moved : i + suc n ≡ suc i + n = omega arith in rw moved (go (f i) (all-from-last (suc i) n))
+    where
+      go : (t : Bool) → allFrom f (suc i) (suc n) ≡ allFrom f (suc i) n and f (suc i + n)
+          → t and allFrom f (suc i) (suc n) ≡ (t and allFrom f (suc i) n) and f (suc i + n)
+      go true e = e
+      go false e = refl
+
+  -- as a loop goes through those below n: stopped by one that fails, on after one that passes, and done past the last
+  module _ (i n : ℕ) where
+    pub all-stopped : i < n → f i ≡ false → allFrom f i (n - i) ≡ false
+    unfolding _and_
+    all-stopped l e = let more : n - i ≡ suc (n - suc i) = omega arith in rw (more, e)
+
+    pub all-onward : i < n → f i ≡ true → allFrom f i (n - i) ≡ allFrom f (i + 1) (n - (i + 1))
+    unfolding _and_
+    all-onward l e = let more : n - i ≡ suc (n - (i + 1)) = omega arith in rw (more, e, add-one)
+
+    pub all-done : n ≤ i → allFrom f i (n - i) ≡ true
+    all-done l = let none : n - i ≡ 0 = omega arith in rw none
 
 -- ---- ascending lists
 

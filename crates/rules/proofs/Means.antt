@@ -48,6 +48,11 @@ false-and true b (inl p) = never (sym p)
 false-and true b (inr q) = q
 false-and false b h = refl
 
+pub and-true : (t : Bool) → t and true ≡ t
+unfolding _and_
+and-true true = refl
+and-true false = refl
+
 pub or-either : (a b : Bool) → a or b ≡ true → (a ≡ true) ⊎ (b ≡ true)
 unfolding _or_
 or-either true b h = inl refl
@@ -149,6 +154,14 @@ module _ {a b : Bool} {X Y : Type 0} where
 
 pub and3-means : {a b c : Bool} {X Y Z : Type 0} → Means a X → Means b Y → Means c Z → Means (a and b and c) (X × Y × Z)
 and3-means p q r = reworded (and-means p (and-means q r)) (λ h. (h .0, h .1 .0, h .1 .1)) (λ h. (h .0, (h .1, h .2)))
+
+-- what the second means need be known only where the first passes
+pub then-means : {a b : Bool} {X Y : Type 0} → Means a X → (X → Means b Y) → Means (a and b) (X × Y)
+then-means {a} {b} p q =
+    record {
+      fact = λ h. let s = and-both a b h in let x = p .fact (s .0) in (x, q x .fact (s .1));
+      test = λ f. both-and a b (p .test (f .0)) (q (f .0) .test (f .1));
+    }
 
 -- where the first passes the second fails
 pub then-fails : {a b : Bool} {X Y : Type 0} → Means a X → Fails b Y → Fails (a and b) (X → Y)

@@ -83,3 +83,8 @@ someLane f i (suc m) = f i or someLane f (suc i) m
 abbrev pub sumLanes : (ℕ → ℕ) → ℕ → ℕ → ℕ
 sumLanes f i zero = 0
 sumLanes f i (suc m) = f i + sumLanes f (suc i) m
+
+-- each of the m numbers from a on passes
+abbrev pub allFrom : (ℕ → Bool) → ℕ → ℕ → Bool
+allFrom f a zero = true
+allFrom f a (suc m) = f a and allFrom f (suc a) m

@@ -1,49 +1,76 @@
--- Finding a node's place, step by step: from the first place on, at a place that has the key, past one that has not, and past the last in use.
+-- Finding a node's place by halving, step by step: from all places in use, on into the upper or the lower half, to two places side by side; what is
+-- found there; and that no place is found past those in use.
 -- Assumes nothing.
-use Prim.Native.Nat.{ℕ, suc, _+_, _-_, _/_, _≤_, _<_}
+use Prim.Native.Nat.{ℕ, zero, suc, _+_, _≤_, _<_}
 use native.Mathlib.Omega.{arith}
-use mathlib.Core.Path.{_≡_, refl}
-use mathlib.Core.Bool.{_&&_}
+use mathlib.Core.Path.{_≡_, refl, sym}
+use mathlib.Core.Bool.{Bool, true, false, cond}
 use mathlib.Core.List.{List}
-use borrow.Author.Tests.{eq-eqb, ne-eqb}
-use lib.Dec.{leb, ltb}
-use lib.ListN.{length}
-use Rattle.rules.proofs.Connectives.{both}
-use Rattle.rules.proofs.Means.{Means, reworded, and-means, le-means, lt-means}
-use Rattle.store.specs.Sizes.{nodePlaceWords}
+use borrow.Author.Tests.{lt-ltb, le-ltb, le-leb, lt-leb, eq-eqb, ne-eqb, leb-true}
+use lib.Dec.{leb, eqb}
+use Rattle.rules.specs.Connectives.{_and_}
+use Rattle.rules.proofs.Means.{and-both}
 use Rattle.store.specs.Places.{nodeField, keyField, header, nodesInUseField}
-use Rattle.search.specs.PlaceOf.{placeFrom, placesInUse, placeOf}
-
--- the code's test of a place
-pub in-use-means : (nodes : List ℕ) (in-use i : ℕ) → in-use ≡ nodeField nodes header nodesInUseField → 1 ≤ i
-    → Means (leb i in-use && ltb i (length nodes / nodePlaceWords)) (i ≤ placesInUse nodes)
-unfolding placesInUse
-in-use-means nodes in-use i e h =
-    let places = length nodes / nodePlaceWords in
-    rw (both {x = leb i in-use} {y = ltb i places} refl refl)
-    (reworded (and-means (le-means i in-use) (lt-means i places)) (λ f. omega arith) (λ f. (omega arith, omega arith)))
+use Rattle.search.specs.PlaceOf.{placesInUse, halfway, keyBelow, halved, firstNotBelow, placeOf}
 
 module _ (nodes : List ℕ) (k : ℕ) where
-  -- the first place from i on that has the key, among those in use; 0 for none
-  unfoldable pub placeOn : ℕ → ℕ
-  placeOn i = placeFrom nodes k i (suc (placesInUse nodes) - i)
+  -- halving from low and high comes to r: there are steps enough, and they lead there
+  pub record HalvesTo (low high r : ℕ) : Type 0 where
+    pub steps : ℕ
+    pub enough : high ≤ low + suc steps
+    pub comes-to : halved nodes k steps low high ≡ r
 
-  pub place-from-first : placeOn 1 ≡ placeOf nodes k
-  unfolding placeOn placeOf
-  place-from-first = let all : suc (placesInUse nodes) - 1 ≡ placesInUse nodes = omega arith in rw all
+  pub halves-from-all : HalvesTo header (placesInUse nodes + 1) (firstNotBelow nodes k)
+  unfolding firstNotBelow
+  halves-from-all = record { steps = placesInUse nodes; enough = omega arith; comes-to = refl }
 
-  module _ (i : ℕ) where
-    more-places : i ≤ placesInUse nodes → suc (placesInUse nodes) - i ≡ suc (suc (placesInUse nodes) - (i + 1))
-    more-places h = omega arith
+  half : (m low high : ℕ) {r : ℕ} → high ≤ low + suc m → halved nodes k m low high ≡ r → low + 1 < high
+      → (t : Bool) → keyBelow nodes k (halfway low high) ≡ t → HalvesTo (cond t (halfway low high) low) (cond t high (halfway low high)) r
+  half zero low high l e apart t b = absurd (omega arith)
+  half (suc m) low high l e apart true b = record { steps = m; enough = omega arith; comes-to = rw (lt-ltb _ _ apart, b) at e }
+  half (suc m) low high l e apart false b = record { steps = m; enough = omega arith; comes-to = rw (lt-ltb _ _ apart, b) at e }
 
-    pub place-here : i ≤ placesInUse nodes → nodeField nodes i keyField ≡ k → placeOn i ≡ i
-    unfolding placeOn
-    place-here h e = rw (more-places h, eq-eqb _ _ e)
+  module _ {low high r : ℕ} where
+    -- where the place halfway is below k, on into the upper half ..
+    pub upper-half : low + 1 < high → nodeField nodes (halfway low high) keyField < k → HalvesTo low high r → HalvesTo (halfway low high) high r
+    upper-half apart b h = half (h .steps) low high (h .enough) (h .comes-to) apart true (lt-ltb _ _ b)
 
-    pub place-onward : i ≤ placesInUse nodes → (nodeField nodes i keyField ≡ k → ⊥) → placeOn i ≡ placeOn (i + 1)
-    unfolding placeOn
-    place-onward h n = rw (more-places h, ne-eqb _ _ n)
+    -- .. and where it is not, into the lower
+    pub lower-half : low + 1 < high → k ≤ nodeField nodes (halfway low high) keyField → HalvesTo low high r → HalvesTo low (halfway low high) r
+    lower-half apart b h = half (h .steps) low high (h .enough) (h .comes-to) apart false (le-ltb _ _ b)
 
-    pub no-place-past : placesInUse nodes < i → placeOn i ≡ 0
-    unfolding placeOn
-    no-place-past h = let none : suc (placesInUse nodes) - i ≡ 0 = omega arith in rw none
+    pub side-by-side : high ≤ low + 1 → HalvesTo low high r → r ≡ high
+    side-by-side near h = go (h .steps) (h .comes-to)
+      where
+        go : (m : ℕ) → halved nodes k m low high ≡ r → r ≡ high
+        go zero e = sym e
+        go (suc m) e = sym (rw (le-ltb _ _ near) at e)
+
+  -- ---- the place found there
+
+  module _ {i : ℕ} (first : firstNotBelow nodes k ≡ i) where
+    pub place-there : i ≤ placesInUse nodes → nodeField nodes i keyField ≡ k → placeOf nodes k ≡ i
+    unfolding placeOf _and_
+    place-there h e = rw (first, le-leb _ _ h, eq-eqb _ _ e)
+
+    pub other-key-there : i ≤ placesInUse nodes → (nodeField nodes i keyField ≡ k → ⊥) → placeOf nodes k ≡ 0
+    unfolding placeOf _and_
+    other-key-there h n = rw (first, le-leb _ _ h, ne-eqb _ _ n)
+
+    pub none-not-below : placesInUse nodes < i → placeOf nodes k ≡ 0
+    unfolding placeOf _and_
+    none-not-below h = rw (first, lt-leb _ _ h)
+
+  -- ---- no further than the places in use
+
+  pub place-in-use : placeOf nodes k ≤ placesInUse nodes
+  unfolding placeOf
+  place-in-use = go (firstNotBelow nodes k) _ refl
+    where
+      go : (i : ℕ) (t : Bool) → leb i (placesInUse nodes) and eqb (nodeField nodes i keyField) k ≡ t → cond t i 0 ≤ placesInUse nodes
+      go i true e = leb-true _ _ (and-both _ _ e .0)
+      go i false e = omega arith
+
+pub places-in-use-counted : (nodes : List ℕ) → placesInUse nodes ≤ nodeField nodes header nodesInUseField
+unfolding placesInUse
+places-in-use-counted nodes = omega arith

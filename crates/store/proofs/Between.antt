@@ -1,11 +1,12 @@
 -- The words from one index up to another: one word more while there is one, then none, never more than there are; and which they are.
 -- Assumes nothing.
 use Prim.Native.Nat.{ℕ, suc, _+_, _-_, _≤_, _<_, min}
+use native.Mathlib.Nat.{sub-zero}
 use native.Mathlib.Omega.{arith}
 use native.Mathlib.Numerals.{add-one}
 use mathlib.Core.Path.{_≡_, refl}
 use mathlib.Core.List.{List, [], _∷_, _++_}
-use lib.ListN.{length, getD, length-take, length-drop}
+use lib.ListN.{length, getD, take, length-take, length-drop}
 use lib.Seq.{drop-cons, drop-at, take-at}
 use Rattle.store.specs.SaidMarks.{between}
 
@@ -23,6 +24,11 @@ next-between from to words h =
 pub none-between : (from to : ℕ) (words : List ℕ) → min to (length words) ≤ from → between from to words ≡ []
 unfolding between
 none-between from to words h = none-of _ (simp (length-take, length-drop) (omega arith))
+
+-- from the first word on
+pub between-from-first : (to : ℕ) (words : List ℕ) → between 0 to words ≡ take to words
+unfolding between
+between-from-first to words = rw sub-zero
 
 pub between-at-most : (from to : ℕ) (words : List ℕ) → length (between from to words) ≤ length words
 unfolding between

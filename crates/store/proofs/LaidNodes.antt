@@ -1,4 +1,4 @@
--- The node words of a profile: how many they are, what stands in the fields of each place, and that they say the profile's nodes.
+-- The node words of a profile: how many they are, and what stands in the fields of each place.
 -- Assumes nothing.
 use Prim.Native.Nat.{ℕ, zero, suc, _+_, _-_, _*_, _≤_, _<_}
 use mathlib.Core.Path.{_≡_, refl, sym, ap, _∙_}
@@ -14,11 +14,10 @@ use Rattle.rules.specs.Marks.{marksInUse}
 use Rattle.rules.specs.Staircase.{slotsPerNode}
 use Rattle.store.specs.Sizes.{nodePlaceWords}
 use Rattle.store.specs.Places.{nodeField, keyField, levelField, linkField, fenceField, header, nodesInUseField, marksInUseField}
-use Rattle.store.specs.SaidProfile.{saidNode, saidNodesFrom, saidNodes}
 use Rattle.store.specs.LaidMarks.{slotsMarks, nodeMarks}
 use Rattle.store.specs.LaidNodes.{nextPlace, laidHeader, laidNode, laidNodesFrom, laidNodes}
 use Rattle.store.specs.Padded.{padded}
-use Rattle.rules.proofs.Lists.{place-within, rest-follows}
+use Rattle.rules.proofs.Lists.{place-within}
 use Rattle.store.proofs.Padded.{padded-length}
 use Rattle.store.proofs.PlaceWords.{header-words, fence-at, record-words}
 use Rattle.store.proofs.LaidMarks.{marksBefore}
@@ -126,15 +125,3 @@ module _ (words : ℕ) (p : Profile) where
         node-field j n rest at (fenceField s) (omega arith)
         ∙ record-words p n rest (suc j) before .other-at s
         ∙ fence-at p n rest before 0 slotsPerNode s l
-
-  -- ---- the nodes that are said
-
-  said-from : (j : ℕ) (ms : List Node) → drop j (p .nodes) ≡ ms → saidNodesFrom (laidNodes words p) (suc j) (length ms) ≡ ms
-  unfolding saidNode
-  said-from j [] at = refl
-  said-from j (n ∷ rest) at =
-      rw (laid-key j n rest at, laid-level j n rest at, said-from (suc j) rest (rest-follows j (p .nodes) at))
-
-  pub said-nodes-laid : saidNodes (laidNodes words p) ≡ p .nodes
-  unfolding saidNodes
-  said-nodes-laid = rw laid-in-use (said-from 0 (p .nodes) refl)

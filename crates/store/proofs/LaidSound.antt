@@ -14,9 +14,9 @@ use Rattle.store.specs.LaidMemory.{laidMemory}
 use Rattle.store.specs.Sound.{sound}
 use Rattle.store.proofs.RightSizes.{room-has-lengths}
 use Rattle.store.proofs.LaidBands.{laid-bands-length, laid-bands-say}
-use Rattle.store.proofs.LaidNodes.{laid-nodes-length, said-nodes-laid}
+use Rattle.store.proofs.LaidNodes.{laid-nodes-length}
 use Rattle.store.proofs.LaidMarks.{laid-marks-length}
-use Rattle.store.proofs.LaidLays.{laid-lays}
+use Rattle.store.proofs.LaidLays.{laid-lays, said-nodes-laid}
 use Rattle.store.proofs.Lays.{Lays}
 use Rattle.store.proofs.Sound.{Sound, sound-means}
 

@@ -1,8 +1,8 @@
 -- What node and mark words that lay a profile say at each place. A place is known by what follows it: the node of place j + 1 is n, with `rest`
--- after it, when `drop j` of the nodes is `n ∷ rest`.
+-- after it, when `drop j` of the nodes is `n ∷ rest`. So they say the profile's nodes.
 -- Assumes nothing.
 use Prim.Native.Nat.{ℕ, suc, _≤_, _<_}
-use mathlib.Core.Path.{_≡_}
+use mathlib.Core.Path.{_≡_, refl}
 use mathlib.Core.Bool.{cond}
 use mathlib.Core.List.{List, [], _∷_}
 use lib.ListN.{length, drop}
@@ -10,9 +10,11 @@ use Rattle.rules.specs.NodesLanesEdges.{Node, lanes, takesPart}
 use Rattle.rules.specs.Profile.{Profile}
 use Rattle.rules.specs.Marks.{marksInUse}
 use Rattle.store.specs.Places.{nodeField, keyField, levelField, linkField, header, nodesInUseField, marksInUseField}
+use Rattle.store.specs.SaidProfile.{saidNode, saidNodesFrom, saidNodes}
 use Rattle.store.specs.SaidMarks.{saidMarks}
 use Rattle.store.specs.LaidNodes.{nextPlace}
 use Rattle.store.specs.LaidMarks.{slotMarks}
+use Rattle.rules.proofs.Lists.{rest-follows}
 
 pub record Lays (p : Profile) (nodes marks : List ℕ) : Type 0 where
   pub in-use : nodeField nodes header nodesInUseField ≡ length (p .nodes)
@@ -28,3 +30,13 @@ pub record Lays (p : Profile) (nodes marks : List ℕ) : Type 0 where
   pub slot :
       (j : ℕ) (n : Node) (rest : List Node) → drop j (p .nodes) ≡ n ∷ rest → (s : ℕ) → s ≤ lanes
       → saidMarks nodes marks (suc j) s ≡ slotMarks p n rest s
+
+module _ {p : Profile} {nodes marks : List ℕ} (l : Lays p nodes marks) where
+  said-from : (j : ℕ) (ms : List Node) → drop j (p .nodes) ≡ ms → saidNodesFrom nodes (suc j) (length ms) ≡ ms
+  unfolding saidNode
+  said-from j [] at = refl
+  said-from j (n ∷ rest) at = rw (l .key j n rest at, l .level j n rest at, said-from (suc j) rest (rest-follows j (p .nodes) at))
+
+  pub lays-says-nodes : saidNodes nodes ≡ p .nodes
+  unfolding saidNodes
+  lays-says-nodes = rw (l .in-use) (said-from 0 (p .nodes) refl)

@@ -1,11 +1,12 @@
 -- What holds of the lent memory as words, for every profile and room:
 --   RightSizes     which lengths are right, and which room they make
 --   Memory         two memories are the same
---   SaidBands      the bands that any words say, place by place
+--   SaidBands, SaidNodes    the bands and the nodes that any words say, place by place
 --   Between        the words from one index up to another
---   Lays           what node and mark words that lay a profile say at each place
---   LaidBands, LaidNodes, LaidMarks    the words of a profile, and that they say what was laid
+--   Lays           what node and mark words that lay a profile say at each place, and that they say its nodes
+--   LaidBands, LaidNodes, LaidMarks    the words of a profile
 --   LaidLays       .. so they lay it
+--   NodeWords      .. and are the only words of their length with those fields
 --   LaidEmpty      the words of the empty profile
 --   Sound          sound memory in plain facts, and that two of the same lengths and profile are equal
 --   LaidSound      what is laid is sound and says the profile: each that stands and fits has such a memory
@@ -17,6 +18,7 @@
 pub mod RightSizes
 pub mod Memory
 pub mod SaidBands
+pub mod SaidNodes
 pub mod Between
 pub mod Padded
 pub mod Lays
@@ -25,6 +27,7 @@ pub mod LaidBands
 pub mod LaidMarks
 pub mod LaidNodes
 pub mod LaidLays
+pub mod NodeWords
 pub mod LaidEmpty
 pub mod Sound
 pub mod LaidSound

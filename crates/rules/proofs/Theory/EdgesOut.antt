@@ -51,7 +51,7 @@ edge-out-of i e ns = at-some-place (λ c ms. In e (edgesIn i ms)) (λ c ms. Lead
 -- ---- each edge leads out of one node only, where nodes are in key order
 
 -- the first of these nodes stands at the key
-abbrev StartsAt : ℕ → List Node → Type 0
+abbrev pub StartsAt : ℕ → List Node → Type 0
 StartsAt x [] = ⊥
 StartsAt x (n ∷ rest) = n .key ≡ x
 
@@ -69,17 +69,18 @@ no-later c x zero k (n ∷ ns) a p q = omega arith
 no-later c x (suc j) zero (n ∷ ns) a p q = absurd (omega (arith, starts-from (suc (n .key)) x j ns (a .1) p))
 no-later c x (suc j) (suc k) (n ∷ ns) a p q = omega (arith, no-later (suc (n .key)) x j k ns (a .1) p q)
 
-module _ (c : ℕ) (ns : List Node) (a : Asc c ns) (i : ℕ) where
-  one-place : (x j k : ℕ) → StartsAt x (drop j ns) → StartsAt x (drop k ns) → j ≡ k
-  one-place x j k p q = omega (arith, no-later c x j k ns a p q, no-later c x k j ns a q p)
+-- at one place only does a node stand at the key
+pub one-place : (c : ℕ) (ns : List Node) → Asc c ns → (x j k : ℕ) → StartsAt x (drop j ns) → StartsAt x (drop k ns) → j ≡ k
+one-place c ns a x j k p q = omega (arith, no-later c x j k ns a p q, no-later c x k j ns a q p)
 
+module _ (c : ℕ) (ns : List Node) (a : Asc c ns) (i : ℕ) where
   starts : (e : Edge) (ms : List Node) → LeadsOut i ms e → StartsAt (e .from) ms
   starts e [] o = o
   starts e (n ∷ rest) o = o .1
 
   -- an edge leads out of one node only
   pub edge-once : (e : Edge) (j k : ℕ) → LeadsOut i (drop j ns) e → LeadsOut i (drop k ns) e → j ≡ k
-  edge-once e j k o p = one-place (e .from) j k (starts e (drop j ns) o) (starts e (drop k ns) p)
+  edge-once e j k o p = one-place c ns a (e .from) j k (starts e (drop j ns) o) (starts e (drop k ns) p)
 
 -- ---- the nodes ahead
 
@@ -143,7 +144,7 @@ module _ {ns : List Node} {c : ℕ} {n : Node} {rest : List Node} (f : Ahead ns 
       least = first-least (λ k. k) (suc (n .key)) (laneOf i rest) (lane-ascends i (suc (n .key)) rest (f .ascend .1)) y
 
 -- the nodes from any place on are ahead
-from-place-ahead : (ns : List Node) (j c : ℕ) (ms : List Node) → Ahead ns c ms → (d : ℕ) × Ahead ns d (drop j ms)
+pub from-place-ahead : (ns : List Node) (j c : ℕ) (ms : List Node) → Ahead ns c ms → (d : ℕ) × Ahead ns d (drop j ms)
 from-place-ahead ns zero c ms f = (c, f)
 from-place-ahead ns (suc j) c [] f = (c, f)
 from-place-ahead ns (suc j) c (n ∷ rest) f = from-place-ahead ns j (suc (n .key)) rest (rest-ahead f)

@@ -114,7 +114,7 @@ unfolding slotNumber
 slots-apart j k t u l m e = (omega arith, omega arith)
 
 module _ (ns : List Node) (b : Band) where
-  out-means : (i : ℕ) (n : Node) (rest : List Node) → Means (outMarked ns b n rest i) (SlotMarked ns b (n ∷ rest) (suc i))
+  pub out-means : (i : ℕ) (n : Node) (rest : List Node) → Means (outMarked ns b n rest i) (SlotMarked ns b (n ∷ rest) (suc i))
   out-means i n rest =
       reworded (and-means (takes-part-means i n) (first-link-means ns b i (n .key) (laneOf i rest)))
       (λ h. (h .0, h .1 .0, h .1 .1, h .1 .2)) (λ h. (h .0, (h .1, h .2, h .3)))

@@ -98,7 +98,7 @@ module _ (b : Band) {ns : List Node} {c : ℕ} {n : Node} {rest : List Node} (f 
 
 -- ---- the walk
 
-add-append : {A : Type 0} (t : Bool) (x : A) (xs ys : List A) → addIf t x xs ++ ys ≡ addIf t x (xs ++ ys)
+pub add-append : {A : Type 0} (t : Bool) (x : A) (xs ys : List A) → addIf t x xs ++ ys ≡ addIf t x (xs ++ ys)
 add-append true x xs ys = refl
 add-append false x xs ys = refl
 

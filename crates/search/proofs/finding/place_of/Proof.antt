@@ -1,70 +1,70 @@
--- `search::finding::place_of` meets its contract. The loop's invariant: finding on from here gives the same as finding from the first place.
+-- `search::finding::place_of` meets its contract. The loop's invariant: halving on from here comes to the same as halving all places in use.
 -- Assumes nothing.
-use Prim.Native.Nat.{_+_, _-_, _/_, _≤_}
+use Prim.Native.Nat.{_+_, _-_, _≤_, _<_}
 use native.Mathlib.Omega.{arith}
-use mathlib.Core.Path.{_≡_, sym, _∙_}
-use mathlib.Core.Bool.{_&&_}
+use mathlib.Core.Path.{sym, _∙_}
 use borrow.Author.Needs.{needs}
-use lib.Dec.{leb, ltb}
-use lib.ListN.{length}
-use Rattle.rules.proofs.Means.{Means, denied}
-use Rattle.search.specs.PlaceOf.{placesInUse, placeOf}
-use Rattle.search.proofs.PlaceSteps.{placeOn, place-from-first, in-use-means, place-here, place-onward, no-place-past}
+use Rattle.search.specs.PlaceOf.{firstNotBelow}
+use Rattle.search.proofs.PlaceSteps.{HalvesTo, halves-from-all, upper-half, lower-half, side-by-side, place-there, other-key-there, none-not-below}
 use Rattle.search.proofs.finding.place_of.Statement.{statement}
 use Rattle.search.proofs.finding.place_of.Tie as tie
 
 abbrev Inv-loop : tie.InvT-loop
-Inv-loop nodes k in-use places place₀ place = (1 ≤ place) × (placeOn nodes k place ≡ placeOf nodes k)
+Inv-loop nodes k in-use low₀ high₀ low high = (low < high) × (high ≤ in-use + 1) × HalvesTo nodes k low high (firstNotBelow nodes k)
 
 abbrev μ-loop : tie.MeasureT-loop
-μ-loop nodes k in-use places place₀ place = placesInUse nodes + 1 - place
+μ-loop nodes k in-use low₀ high₀ low high = high - low
 
 cast-k : tie.Need-cast-k Inv-loop μ-loop
 cast-k c = search needs
 
+places-in-use-requires : tie.Need-places-in-use-requires Inv-loop μ-loop
+places-in-use-requires c κs = search needs
+
+add-high : tie.Need-add-high Inv-loop μ-loop
+add-high c = search needs
+
+loop-holds : tie.Need-loop-holds Inv-loop μ-loop
+loop-holds c = (search needs, search needs, rw (c .places-in-use .ensures .0) (halves-from-all _ _))
+
+add-loop : tie.Need-add-loop Inv-loop μ-loop
+add-loop c = search needs
+
+add-mid : tie.Need-add-mid Inv-loop μ-loop
+add-mid c = search needs
+
 node-word-requires : tie.Need-node-word-requires Inv-loop μ-loop
 node-word-requires c κs = search needs
 
-loop-holds : tie.Need-loop-holds Inv-loop μ-loop
-loop-holds c = (omega arith, place-from-first _ _)
-
--- the loop's test says whether its place is in use
-in-use : (c : tie.At-loop Inv-loop μ-loop)
-    → Means
-    (leb (c .loop .place) (c .before .node-word .result) && ltb (c .loop .place) (length (c .before .before .before .before .args .nodes .now) / 20))
-    (c .loop .place ≤ placesInUse (c .before .before .before .before .args .nodes .now))
-in-use c = in-use-means _ _ _ (c .before .node-word .ensures .0) (c .loop .inv .0)
-
-node-word-requires-2 : tie.Need-node-word-requires-2 Inv-loop μ-loop
-unfolding placesInUse
-node-word-requires-2 c κs = let h = in-use (c .before) .fact (c .loop-test .taken) in (omega arith, omega arith)
-
-returns : tie.Need-returns Inv-loop μ-loop
-unfolding placesInUse
-returns c =
-    let h = in-use (c .before .before .before) .fact (c .before .before .loop-test .taken) in (
-      sym (place-here _ _ _ h (sym (c .before .node-word2 .ensures .0) ∙ c .if1 .taken)) ∙ c .before .before .before .loop .inv .1,
-      omega arith,
-    )
-
-add-place : tie.Need-add-place Inv-loop μ-loop
-unfolding placesInUse
-add-place c = let h = in-use (c .before .before .before) .fact (c .before .before .loop-test .taken) in record { fits = omega arith }
-
 loop-less : tie.Need-loop-less Inv-loop μ-loop
-loop-less c = let h = in-use (c .before .before .before) .fact (c .before .before .loop-test .taken) in omega arith
+loop-less c = search needs
 
 loop-again : tie.Need-loop-again Inv-loop μ-loop
-loop-again c =
-    let h = in-use (c .before .before .before) .fact (c .before .before .loop-test .taken) in (
-      omega arith,
-      sym (place-onward _ _ _ h (λ e. c .if1 .left (c .before .node-word2 .ensures .0 ∙ e))) ∙ c .before .before .before .loop .inv .1,
-    )
+loop-again c = (search needs, search needs, upper-half _ _ (search needs) (search needs) (c .before .before .before .loop .inv .2))
+
+loop-less-2 : tie.Need-loop-less-2 Inv-loop μ-loop
+loop-less-2 c = search needs
+
+loop-again-2 : tie.Need-loop-again-2 Inv-loop μ-loop
+loop-again-2 c = (search needs, search needs, lower-half _ _ (search needs) (search needs) (c .before .before .before .loop .inv .2))
+
+returns : tie.Need-returns Inv-loop μ-loop
+returns c =
+    let first = side-by-side _ _ (omega arith) (c .before .before .loop .inv .2) in
+    (sym (none-not-below _ _ first (omega arith)), search needs)
+
+node-word-requires-2 : tie.Need-node-word-requires-2 Inv-loop μ-loop
+node-word-requires-2 c κs = search needs
 
 returns-2 : tie.Need-returns-2 Inv-loop μ-loop
 returns-2 c =
-    let past = denied (in-use (c .before)) .fact (c .loop-test .left) in
-    (sym (no-place-past _ _ _ (omega arith)) ∙ c .before .loop .inv .1, omega arith)
+    let first = side-by-side _ _ (omega arith) (c .before .before .before .before .loop .inv .2) in
+    (sym (place-there _ _ first (omega arith) (sym (c .before .node-word2 .ensures .0) ∙ c .if3 .taken)), search needs)
+
+returns-3 : tie.Need-returns-3 Inv-loop μ-loop
+returns-3 c =
+    let first = side-by-side _ _ (omega arith) (c .before .before .before .before .loop .inv .2) in
+    (sym (other-key-there _ _ first (omega arith) (λ e. c .if3 .left (c .before .node-word2 .ensures .0 ∙ e))), search needs)
 
 pub place-of-spec : {M : Type 1} → statement M
 place-of-spec =
@@ -73,11 +73,17 @@ place-of-spec =
     Inv-loop
     μ-loop
     cast-k
-    node-word-requires
+    places-in-use-requires
+    add-high
     loop-holds
-    node-word-requires-2
-    returns
-    add-place
+    add-loop
+    add-mid
+    node-word-requires
     loop-less
     loop-again
-    returns-2)
+    loop-less-2
+    loop-again-2
+    returns
+    node-word-requires-2
+    returns-2
+    returns-3)

@@ -1,0 +1,24 @@
+-- What the tests of the check mean, and that together they are soundness:
+--   FreeWords      free words
+--   BandPlaces     the band places
+--   NodePlaces     the node places, but for links, fences and the count of marks
+--   EndsStand      ends and nodes
+--   NextPlaces     the next place of a lane
+--   LinksLaid      the links
+--   MarkPlaces     fences, marks in use and marks
+--   NodesLaid      the node words, by node places, links and fences
+--   TestedIsSound  all tests pass exactly when memory is sound
+-- As the code goes through them: EndSteps, LinkSteps, MarkTests, and TestsInOrder of all.
+pub mod FreeWords
+pub mod BandPlaces
+pub mod NodePlaces
+pub mod EndsStand
+pub mod NextPlaces
+pub mod LinksLaid
+pub mod MarkPlaces
+pub mod NodesLaid
+pub mod TestedIsSound
+pub mod EndSteps
+pub mod LinkSteps
+pub mod MarkTests
+pub mod TestsInOrder

@@ -1,0 +1,52 @@
+-- `laying::band_places::place_right` meets its contract.
+-- Assumes nothing.
+use Prim.Native.Nat.{ℕ}
+use mathlib.Core.Path.{_≡_, sym, ap, _∙_}
+use mathlib.Core.Bool.{Bool, true, false}
+use mathlib.Core.List.{List}
+use borrow.Author.Needs.{needs}
+use Rattle.rules.specs.Connectives.{_or_}
+use Rattle.laying.specs.BandPlaces.{bandPlaceFree, bandPlaceLive, bandPlaceRight}
+use Rattle.laying.proofs.band_places.place_right.Statement.{statement}
+use Rattle.laying.proofs.band_places.place_right.Tie as tie
+
+-- a place that is free is right, and another is where it has a right band
+module _ (bands : List ℕ) (b : ℕ) {t : Bool} (free : t ≡ bandPlaceFree bands b) where
+  free-right : t ≡ true → true ≡ bandPlaceRight bands b
+  unfolding bandPlaceRight _or_
+  free-right e = ap (λ f. f or bandPlaceLive bands b) (sym e ∙ free)
+
+  live-right : t ≡ false → bandPlaceLive bands b ≡ bandPlaceRight bands b
+  unfolding bandPlaceRight _or_
+  live-right e = ap (λ f. f or bandPlaceLive bands b) (sym e ∙ free)
+
+mul-first : tie.Need-mul-first
+mul-first c = search needs
+
+add-zeros-between : tie.Need-add-zeros-between
+add-zeros-between c = search needs
+
+zeros-between-requires : tie.Need-zeros-between-requires
+zeros-between-requires c κs = search needs
+
+returns : tie.Need-returns
+unfolding bandPlaceFree
+returns c = free-right _ _ (c .before .zeros-between .ensures) (c .if1 .taken)
+
+place-live-requires : tie.Need-place-live-requires
+place-live-requires c κs = search needs
+
+returns-2 : tie.Need-returns-2
+unfolding bandPlaceFree
+returns-2 c = c .place-live .ensures ∙ live-right _ _ (c .before .before .zeros-between .ensures) (c .before .if1 .left)
+
+pub place-right-spec : {M : Type 1} → statement M
+place-right-spec =
+    tie.close
+    (tie.spec
+    mul-first
+    add-zeros-between
+    zeros-between-requires
+    returns
+    place-live-requires
+    returns-2)

@@ -1,0 +1,68 @@
+-- `laying::mark_places::fences_right` meets its contract. The loop's invariant: the fences of the places from here on are right exactly when all are.
+-- Assumes nothing.
+use Prim.Native.Nat.{_+_, _-_, _≤_}
+use native.Mathlib.Omega.{arith}
+use mathlib.Core.Path.{_≡_, sym, _∙_, ap}
+use borrow.Author.Needs.{needs}
+use borrow.Author.Tests.{not-true, not-false}
+use Rattle.rules.specs.Lists.{allFrom}
+use Rattle.rules.proofs.Lists.{all-stopped, all-onward, all-done}
+use Rattle.laying.specs.NodePlaces.{inUse}
+use Rattle.laying.specs.MarkPlaces.{fencesAt}
+use Rattle.laying.proofs.mark_places.fences_right.Statement.{statement}
+use Rattle.laying.proofs.mark_places.fences_right.Tie as tie
+
+abbrev Inv-loop : tie.InvT-loop
+Inv-loop nodes starts in-use place₀ place =
+    (1 ≤ place) × (allFrom (fencesAt nodes starts) place (inUse nodes + 1 - place) ≡ allFrom (fencesAt nodes starts) 1 (inUse nodes))
+
+abbrev μ-loop : tie.MeasureT-loop
+μ-loop nodes starts in-use place₀ place = inUse nodes + 1 - place
+
+node-word-requires : tie.Need-node-word-requires Inv-loop μ-loop
+node-word-requires c κs = search needs
+
+loop-holds : tie.Need-loop-holds Inv-loop μ-loop
+loop-holds c =
+    let nodes = c .before .before .before .args .nodes .now in
+    let all-left : inUse nodes + 1 - 1 ≡ inUse nodes = omega arith in
+    (omega arith, ap (allFrom (fencesAt nodes _) 1) all-left)
+
+place-fences-right-requires : tie.Need-place-fences-right-requires Inv-loop μ-loop
+place-fences-right-requires c κs = search needs
+
+returns : tie.Need-returns Inv-loop μ-loop
+returns c =
+    let wrong = sym (c .before .place-fences-right .ensures) ∙ not-true _ (c .if1 .taken) in
+    sym (all-stopped (fencesAt _ _) _ _ (omega arith) wrong) ∙ c .before .before .before .loop .inv .1
+
+add-place : tie.Need-add-place Inv-loop μ-loop
+add-place c = search needs
+
+loop-less : tie.Need-loop-less Inv-loop μ-loop
+loop-less c = search needs
+
+loop-again : tie.Need-loop-again Inv-loop μ-loop
+loop-again c =
+    let right = sym (c .before .place-fences-right .ensures) ∙ not-false _ (c .if1 .left) in
+    (omega arith, sym (all-onward (fencesAt _ _) _ _ (omega arith) right) ∙ c .before .before .before .loop .inv .1)
+
+returns-2 : tie.Need-returns-2 Inv-loop μ-loop
+returns-2 c =
+    let past : inUse (c .before .before .before .before .before .args .nodes .now) + 1 ≤ c .before .loop .place = omega arith in
+    sym (all-done (fencesAt _ _) _ _ past) ∙ c .before .loop .inv .1
+
+pub fences-right-spec : {M : Type 1} → statement M
+fences-right-spec =
+    tie.close
+    (tie.spec
+    Inv-loop
+    μ-loop
+    node-word-requires
+    loop-holds
+    place-fences-right-requires
+    returns
+    add-place
+    loop-less
+    loop-again
+    returns-2)

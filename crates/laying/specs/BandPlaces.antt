@@ -1,0 +1,33 @@
+-- The test of the band places: each is free, or has a band that is right by 2 to 6.
+-- Assumes nothing.
+use Prim.Native.Nat.{ℕ, _+_, _*_}
+use mathlib.Core.Bool.{Bool}
+use mathlib.Core.List.{List}
+use lib.Dec.{leb, eqb}
+use Rattle.rules.specs.Connectives.{_and_, _or_}
+use Rattle.rules.specs.Lists.{allFrom}
+use Rattle.rules.specs.BoxSaysNo.{bandFault}
+use Rattle.store.specs.Sizes.{bandPlaceWords, bandPlaces}
+use Rattle.store.specs.Places.{bandField, liveField, lowClosedField, highClosedField}
+use Rattle.store.specs.SaidProfile.{saidBand}
+use Rattle.laying.specs.Zeros.{zerosBetween}
+
+-- the place of number b is free: its eight words are zeros
+unfoldable pub bandPlaceFree : List ℕ → ℕ → Bool
+bandPlaceFree bands b = zerosBetween (b * bandPlaceWords) (b * bandPlaceWords + bandPlaceWords) bands
+
+-- it has a right band: live is 1, each closed word 0 or 1, the two words after them zeros, and the band is right by 2 to 6
+unfoldable pub bandPlaceLive : List ℕ → ℕ → Bool
+bandPlaceLive bands b =
+    eqb (bandField bands b liveField) 1
+    and leb (bandField bands b lowClosedField) 1
+    and leb (bandField bands b highClosedField) 1
+    and zerosBetween (b * bandPlaceWords + 6) (b * bandPlaceWords + bandPlaceWords) bands
+    and eqb (bandFault (saidBand bands b)) 0
+
+unfoldable pub bandPlaceRight : List ℕ → ℕ → Bool
+bandPlaceRight bands b = bandPlaceFree bands b or bandPlaceLive bands b
+
+-- all 1,024 places are
+unfoldable pub bandPlacesRight : List ℕ → Bool
+bandPlacesRight bands = allFrom (bandPlaceRight bands) 0 bandPlaces

@@ -1,0 +1,39 @@
+-- The test that ends and nodes match both ways: each end of a live band has a node, and each node is such an end.
+-- Assumes nothing.
+use Prim.Native.Nat.{ℕ, zero, suc}
+use mathlib.Core.Bool.{Bool}
+use mathlib.Core.List.{List, [], _∷_, _++_}
+use lib.ListN.{set}
+use Rattle.rules.specs.Connectives.{_and_, saysYes}
+use Rattle.rules.specs.Lists.{onlyIf, all, allFrom, member}
+use Rattle.rules.specs.HallLine.{Band}
+use Rattle.store.specs.Sizes.{bandPlaces}
+use Rattle.store.specs.Places.{bandField, liveField}
+use Rattle.store.specs.SaidProfile.{saidBand}
+use Rattle.search.specs.PlaceOf.{placeOf}
+use Rattle.laying.specs.NodePlaces.{inUse}
+
+-- the places of the ends of the band of number b, if it is live; 0 where no node stands
+unfoldable pub endPlacesOf : List ℕ → List ℕ → ℕ → List ℕ
+endPlacesOf bands nodes b =
+    let band : Band = saidBand bands b in
+    onlyIf (saysYes (bandField bands b liveField)) (placeOf nodes (band .low) ∷ placeOf nodes (band .high) ∷ [])
+
+-- those of the m numbers from b on
+abbrev pub endPlacesFrom : List ℕ → List ℕ → ℕ → ℕ → List ℕ
+endPlacesFrom bands nodes b zero = []
+endPlacesFrom bands nodes b (suc m) = endPlacesOf bands nodes b ++ endPlacesFrom bands nodes (suc b) m
+
+unfoldable pub endPlaces : List ℕ → List ℕ → List ℕ
+endPlaces bands nodes = endPlacesFrom bands nodes 0 bandPlaces
+
+-- each end has a place, and each place in use is that of an end
+unfoldable pub endsMatch : List ℕ → List ℕ → Bool
+endsMatch bands nodes = all saysYes (endPlaces bands nodes) and allFrom (λ i. member i (endPlaces bands nodes)) 1 (inUse nodes)
+
+-- ---- as the code goes about it
+
+-- places noted, each by a 1 at its index
+abbrev pub noted : List ℕ → List ℕ → List ℕ
+noted words [] = words
+noted words (i ∷ is) = noted (set words i 1) is

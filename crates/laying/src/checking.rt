@@ -1,0 +1,31 @@
+// The check of a whole profile: each test is made only where those before it have passed.
+ghost use mathlib.Core.Path.{_≡_};
+ghost use Rattle.store.specs.Memory.{lent};
+ghost use Rattle.laying.specs.Tested.{tested};
+use crate::band_places;
+use crate::ends;
+use crate::links;
+use crate::mark_places;
+use crate::node_places;
+
+// Whether memory passes every test.
+pub fn check(bands: &[u32], nodes: &[u32], marks: &[u32]) -> bool
+    ensures { λ r. ⌜ r ≡ tested (lent (now (bands .entry)) (now (nodes .entry)) (now (marks .entry))) ⌝ }
+{
+    if !store::sizes_right(bands, nodes, marks) {
+        return false;
+    }
+    if !band_places::band_places_right(bands) {
+        return false;
+    }
+    if !node_places::node_places_right(nodes) {
+        return false;
+    }
+    if !ends::ends_match(bands, nodes) {
+        return false;
+    }
+    if !links::links_right(nodes) {
+        return false;
+    }
+    mark_places::marks_right(bands, nodes, marks)
+}

@@ -1,0 +1,69 @@
+// The test of the links: one pass from the last node back to the header, with the first place seen so far in each lane.
+ghost use mathlib.Core.Path.{_≡_};
+ghost use Prim.Native.Nat.{_<_, _^_};
+ghost use lib.ListN.{length, replicate};
+ghost use lib.Dec.{eqb};
+ghost use Rattle.rules.specs.Lists.{allFrom};
+ghost use Rattle.rules.specs.NodesLanesEdges.{lanes};
+ghost use Rattle.store.specs.Places.{nodeField, linkField};
+ghost use Rattle.laying.specs.Links.{linksRight, linkDue, raised};
+
+// Whether the links of a place, in as many lanes as it has, lead to the first places ahead; in other lanes they are 0.
+fn place_links_right(nodes: &[u32], place: usize, level: usize, ahead: &[u32]) -> bool
+    requires { ⌜ (place < 2 ^ 32) × (length (now ahead) ≡ lanes) ⌝ }
+    ensures { λ r. ⌜
+        r
+        ≡ allFrom (λ i. eqb (nodeField (now (nodes .entry)) place (linkField i)) (linkDue level (now (ahead .entry)) i)) 0 lanes
+        ⌝ }
+{
+    let mut lane = 0;
+    while lane < store::LANES {
+        let due = if lane < level {
+            ahead[lane] as usize
+        } else {
+            0
+        };
+        if store::node_word(nodes, place, store::LINKS + lane) != due {
+            return false;
+        }
+        lane += 1;
+    }
+    true
+}
+
+// A node's place becomes the first ahead in each lane that it has.
+fn raise(place: usize, level: usize, ahead: &mut [u32])
+    requires { ⌜ (place < 2 ^ 32) × (length (now ahead) ≡ lanes) ⌝ }
+    ensures { λ _. ⌜ now (ahead .exit) ≡ raised place level (now (ahead .entry)) ⌝ }
+{
+    let mut lane = 0;
+    while (lane < level) & (lane < store::LANES) {
+        ahead[lane] = place as u32;
+        lane += 1;
+    }
+}
+
+// The test, with words for the first places ahead.
+fn links_right_with(nodes: &[u32], ahead: &mut [u32]) -> bool
+    requires { ⌜ now ahead ≡ replicate lanes 0 ⌝ }
+    ensures { λ r. ⌜ r ≡ linksRight (now (nodes .entry)) ⌝ }
+{
+    let mut place = store::node_word(nodes, store::HEADER, store::NODES_IN_USE);
+    while 0 < place {
+        let level = store::node_word(nodes, place, store::LEVEL);
+        if !place_links_right(nodes, place, level, ahead) {
+            return false;
+        }
+        raise(place, level, ahead);
+        place -= 1;
+    }
+    place_links_right(nodes, store::HEADER, store::LANES, ahead)
+}
+
+// Whether the links of the header and of all nodes lead to the next place of each lane.
+pub(crate) fn links_right(nodes: &[u32]) -> bool
+    ensures { λ r. ⌜ r ≡ linksRight (now (nodes .entry)) ⌝ }
+{
+    let mut ahead = [0u32; store::LANES];
+    links_right_with(nodes, &mut ahead)
+}

@@ -1,0 +1,130 @@
+// The test of fences and marks: the marks that the bands ask for are counted, and laid in a draft.
+ghost use mathlib.Core.Path.{_≡_};
+ghost use Prim.Native.Nat.{suc, _*_, _≤_, _<_};
+ghost use lib.ListN.{length, take, replicate};
+ghost use Rattle.rules.specs.Lists.{allFrom, sameNumbers};
+ghost use Rattle.rules.specs.Room.{mostNodes, mostMarks};
+ghost use Rattle.rules.specs.Staircase.{slotsPerNode};
+ghost use Rattle.laying.specs.NodePlaces.{inUse};
+ghost use Rattle.laying.specs.MarkPlaces.{marksRight, fencesAt, marksLaid};
+
+// A cursor for each slot of 2,048 nodes, and one past the last.
+const MOST_CURSORS: usize = 18433;
+
+const MOST_MARKS: usize = 16384;
+
+const SLOTS_PER_NODE: usize = 9;
+
+// Whether the ten fences of a place are the starts of its slots and of the slot after them.
+fn place_fences_right(nodes: &[u32], starts: &[u32], place: usize) -> bool
+    requires { ⌜ (1 ≤ place) × (place ≤ mostNodes) × (place * slotsPerNode < length (now starts)) ⌝ }
+    ensures { λ r. ⌜ r ≡ fencesAt (now (nodes .entry)) (now (starts .entry)) place ⌝ }
+{
+    let first = (place - 1) * SLOTS_PER_NODE;
+    let mut slot = 0;
+    while slot <= SLOTS_PER_NODE {
+        if store::node_word(nodes, place, store::FENCES + slot) != starts[first + slot] as usize {
+            return false;
+        }
+        slot += 1;
+    }
+    true
+}
+
+// Whether all fences are the starts of their slots.
+fn fences_right(nodes: &[u32], starts: &[u32]) -> bool
+    requires { ⌜ (inUse (now nodes) ≤ mostNodes) × (inUse (now nodes) * slotsPerNode < length (now starts)) ⌝ }
+    ensures { λ r. ⌜ r ≡ allFrom (fencesAt (now (nodes .entry)) (now (starts .entry))) 1 (inUse (now (nodes .entry))) ⌝ }
+{
+    let in_use = store::node_word(nodes, store::HEADER, store::NODES_IN_USE);
+    let mut place = 1;
+    while place <= in_use {
+        if !place_fences_right(nodes, starts, place) {
+            return false;
+        }
+        place += 1;
+    }
+    true
+}
+
+// Whether words are the first of other words.
+fn same_words(words: &[u32], others: &[u32]) -> bool
+    requires { ⌜ length (now words) ≤ length (now others) ⌝ }
+    ensures { λ r. ⌜ r ≡ sameNumbers (now (words .entry)) (take (length (now (words .entry))) (now (others .entry))) ⌝ }
+{
+    let mut at = 0;
+    while at < words.len() {
+        if words[at] != others[at] {
+            return false;
+        }
+        at += 1;
+    }
+    true
+}
+
+// Whether the marks are those that the bands ask for, laid from these starts on.
+fn marks_stand(
+    bands: &[u32],
+    nodes: &[u32],
+    marks: &[u32],
+    starts: &mut [u32],
+    draft: &mut [u32],
+) -> bool
+    requires { ⌜
+        (inUse (now nodes) ≤ mostNodes)
+        × (length (now draft) ≡ mostMarks)
+        × (length (now marks) ≤ mostMarks)
+        ⌝ }
+    ensures { λ r. ⌜
+        r
+        ≡ sameNumbers
+        (now (marks .entry))
+        (take
+        (length (now (marks .entry)))
+        (marksLaid (now (bands .entry)) (now (nodes .entry)) (now (starts .entry)) (now (draft .entry))))
+        ⌝ }
+{
+    marking::lay(bands, nodes, starts, draft);
+    same_words(marks, draft)
+}
+
+// The test, with words to count and to lay in.
+fn marks_right_with(
+    bands: &[u32],
+    nodes: &[u32],
+    marks: &[u32],
+    cursors: &mut [u32],
+    draft: &mut [u32],
+) -> bool
+    requires { ⌜
+        (inUse (now nodes) ≤ mostNodes)
+        × (length (now marks) ≤ mostMarks)
+        × (now cursors ≡ replicate (length (now cursors)) 0)
+        × (length (now cursors) ≡ suc (mostNodes * slotsPerNode))
+        × (now draft ≡ replicate mostMarks 0)
+        ⌝ }
+    ensures { λ r. ⌜ r ≡ marksRight (now (bands .entry)) (now (nodes .entry)) (now (marks .entry)) ⌝ }
+{
+    let sum = marking::count(bands, nodes, marks.len(), cursors);
+    if marks.len() < sum {
+        return false;
+    }
+    if store::node_word(nodes, store::HEADER, store::MARKS_IN_USE) != sum {
+        return false;
+    }
+    marking::start(cursors);
+    if !fences_right(nodes, cursors) {
+        return false;
+    }
+    marks_stand(bands, nodes, marks, cursors, draft)
+}
+
+// Whether fences, marks and the count of marks are those that the bands ask for.
+pub(crate) fn marks_right(bands: &[u32], nodes: &[u32], marks: &[u32]) -> bool
+    requires { ⌜ (inUse (now nodes) ≤ mostNodes) × (length (now marks) ≤ mostMarks) ⌝ }
+    ensures { λ r. ⌜ r ≡ marksRight (now (bands .entry)) (now (nodes .entry)) (now (marks .entry)) ⌝ }
+{
+    let mut cursors = [0u32; MOST_CURSORS];
+    let mut draft = [0u32; MOST_MARKS];
+    marks_right_with(bands, nodes, marks, &mut cursors, &mut draft)
+}
