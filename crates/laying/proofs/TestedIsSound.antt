@@ -6,7 +6,7 @@ use mathlib.Core.Bool.{true}
 use mathlib.Core.List.{List}
 use native.Mathlib.Omega.{arith}
 use lib.ListN.{length}
-use Rattle.rules.proofs.Means.{Means, reworded, then-means, itself, same-means}
+use Rattle.rules.proofs.Means.{Means, reworded, and-means, then-means, itself, same-means}
 use Rattle.rules.proofs.Lists.{Some, Each}
 use Rattle.rules.proofs.NodesLanesEdges.{NodeAt, EndOf}
 use Rattle.rules.proofs.BoxSaysNo.{BandRight, room-in-range-means}
@@ -73,28 +73,23 @@ tested-means bands nodes marks =
     (λ s.
     let size = sizes-in-numbers (length bands) (length nodes) (length marks) .fact s in
     then-means
-    (band-places-mean bands (size .0))
-    (λ b.
+    (and-means (band-places-mean bands (size .0)) (node-places-mean nodes (omega arith)))
+    (λ p.
+    let n = p .1 in
     then-means
-    (node-places-mean nodes (omega arith))
-    (λ n.
-    then-means
-    (ends-mean bands nodes (n .fits) (n .ascend))
-    (λ e.
-    then-means
-    (links-mean nodes)
-    (λ l. marks-mean bands nodes marks (linked-by nodes n l) (standing-by bands nodes (b .0) n (e .0) (e .1))))))))
+    (and-means (ends-mean bands nodes (n .fits) (n .ascend)) (links-mean nodes))
+    (λ j. marks-mean bands nodes marks (linked-by nodes n (j .1)) (standing-by bands nodes (p .0 .0) n (j .0 .0) (j .0 .1))))))
     (λ h. record {
       sizes = h .0;
-      bands-right = h .1 .0 .0;
-      bands-laid = h .1 .0 .1;
-      nodes-stand = h .1 .1 .0;
-      ends-stand = h .1 .1 .1 .0 .0;
-      only-ends-stand = h .1 .1 .1 .0 .1;
-      links-laid = h .1 .1 .1 .1 .0;
-      marks-laid = h .1 .1 .1 .1 .1;
+      bands-right = h .1 .0 .0 .0;
+      bands-laid = h .1 .0 .0 .1;
+      nodes-stand = h .1 .0 .1;
+      ends-stand = h .1 .1 .0 .0 .0;
+      only-ends-stand = h .1 .1 .0 .0 .1;
+      links-laid = h .1 .1 .0 .1;
+      marks-laid = h .1 .1 .1;
     })
-    (λ t. (t .sizes, ((t .bands-right, t .bands-laid), (t .nodes-stand, ((t .ends-stand, t .only-ends-stand), (t .links-laid, t .marks-laid))))))
+    (λ t. (t .sizes, (((t .bands-right, t .bands-laid), t .nodes-stand), (((t .ends-stand, t .only-ends-stand), t .links-laid), t .marks-laid))))
 
 -- ---- .. is that memory is sound
 

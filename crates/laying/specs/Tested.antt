@@ -13,8 +13,6 @@ use Rattle.laying.specs.MarkPlaces.{marksRight}
 unfoldable pub tested : Memory → Bool
 tested m =
     sizesRight (lengthsIn m)
-    and bandPlacesRight (m .bands)
-    and nodePlacesRight (m .nodes)
-    and endsMatch (m .bands) (m .nodes)
-    and linksRight (m .nodes)
+    and (bandPlacesRight (m .bands) and nodePlacesRight (m .nodes))
+    and (endsMatch (m .bands) (m .nodes) and linksRight (m .nodes))
     and marksRight (m .bands) (m .nodes) (m .marks)

@@ -15,16 +15,12 @@ pub fn check(bands: &[u32], nodes: &[u32], marks: &[u32]) -> bool
     if !store::sizes_right(bands, nodes, marks) {
         return false;
     }
-    if !band_places::band_places_right(bands) {
+    let places = band_places::band_places_right(bands) & node_places::node_places_right(nodes);
+    if !places {
         return false;
     }
-    if !node_places::node_places_right(nodes) {
-        return false;
-    }
-    if !ends::ends_match(bands, nodes) {
-        return false;
-    }
-    if !links::links_right(nodes) {
+    let joins = ends::ends_match(bands, nodes) & links::links_right(nodes);
+    if !joins {
         return false;
     }
     mark_places::marks_right(bands, nodes, marks)

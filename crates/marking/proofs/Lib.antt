@@ -16,6 +16,7 @@
 --   BandMarks          the marks of bands, one band after the other
 --   WalkMarks          along the walks of a standing profile they are its marks, slot by slot
 --   StaircasesLay      so are the staircases of linked words that say a standing profile
+--   LaidAll            counted, started and laid they are its fences and mark words
 pub mod WalkSteps
 pub mod WalkedSlots
 pub mod StaircasesInRange
@@ -31,3 +32,4 @@ pub mod WalkOnLinked
 pub mod BandMarks
 pub mod WalkMarks
 pub mod StaircasesLay
+pub mod LaidAll

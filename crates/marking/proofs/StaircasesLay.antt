@@ -1,7 +1,7 @@
 -- The staircases of memory whose nodes are linked and whose profile stands are the profile's marks: band by band along the walks of the rules,
 -- and so slot by slot, each slot where its fence says, and as many as the marks in use.
 -- Assumes nothing.
-use Prim.Native.Nat.{ℕ, zero, suc, _+_, _*_, _≤_, _<_}
+use Prim.Native.Nat.{ℕ, zero, suc, _+_, _*_, _≤_}
 use mathlib.Core.Path.{_≡_, refl}
 use mathlib.Core.Bool.{Bool, true, false}
 use mathlib.Core.Logic.{inl, inr}
@@ -26,7 +26,7 @@ use Rattle.marking.specs.Staircases.{marksIn, staircasesFrom, staircases
 use Rattle.marking.proofs.Linked.{Linked}
 use Rattle.marking.proofs.WalkOnLinked.{walk-on-linked}
 use Rattle.marking.proofs.BandMarks.{marksAlong}
-use Rattle.marking.proofs.WalkMarks.{walkMarks, slot-of-walks, walks-in-range, walks-count, all-of-walks, start-of-walks}
+use Rattle.marking.proofs.WalkMarks.{walkMarks, slot-of-walks, walks-count, all-of-walks, start-of-walks}
 
 -- the profile that band words and node words say
 abbrev pub saidBy : List ℕ → List ℕ → Profile
@@ -60,10 +60,6 @@ module _ (bands nodes : List ℕ) (linked : Linked nodes) (stands : Standing (sa
   pub slot-numbers : (j : ℕ) (n : Node) (rest : List Node) → drop j (saidNodes nodes) ≡ n ∷ rest → (s : ℕ) → s ≤ lanes
       → inSlot (slotNumber j s) (staircases bands nodes) ≡ slotMarks (saidBy bands nodes) n rest s
   slot-numbers j n rest at s l = rw staircases-by-band (slot-of-walks (saidBy bands nodes) stands j n rest at s l)
-
-  -- none is in a slot past those of the nodes
-  pub slots-in-range : Each (λ m. m .slot < slotNumber (length (saidNodes nodes)) 0) (staircases bands nodes)
-  slots-in-range = rw staircases-by-band (walks-in-range (saidBy bands nodes) stands)
 
   -- they are as many as the marks in use
   pub marks-count : length (staircases bands nodes) ≡ marksInUse (saidBy bands nodes)

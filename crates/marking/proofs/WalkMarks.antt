@@ -15,12 +15,12 @@ use Rattle.rules.proofs.Means.{Means, reworded, itself}
 use Rattle.rules.proofs.Lists.{In, Each, Ascends, rest-follows, place-within}
 use Rattle.rules.proofs.SoundMemory.{Standing}
 use Rattle.rules.proofs.Theory.MarkedSlots.{SlotMarked, out-means}
-use Rattle.rules.proofs.Theory.Staircase.{walk-visits, walk-visits-node, walk-only, walk-ascends, marks-in-use-by-walks}
+use Rattle.rules.proofs.Theory.Staircase.{walk-visits, walk-visits-node, walk-ascends, marks-in-use-by-walks}
 use Rattle.store.specs.LaidMarks.{slotMarks, slotsMarks, nodeMarks, laidMarksFrom}
 use Rattle.store.proofs.LaidMarks.{marksBefore}
 use Rattle.marking.specs.Buckets.{Mark, inSlot, inSlots, startOf}
 use Rattle.marking.proofs.InSlots.{slots-join}
-use Rattle.marking.proofs.BandMarks.{marksAlong, numbers-in-slot, each-in-slot, along-count}
+use Rattle.marking.proofs.BandMarks.{marksAlong, numbers-in-slot, along-count}
 
 -- the marks of all bands of a profile, of each in the slots that its walk visits
 unfoldable pub walkMarks : Profile → List Mark
@@ -44,13 +44,9 @@ unfolding slotNumber
 slots-before j s = refl
 
 -- after the slots of k nodes come those of the next
-pub slots-of-nodes : (k : ℕ) → k * slotsPerNode ≡ slotNumber k 0
+slots-of-nodes : (k : ℕ) → k * slotsPerNode ≡ slotNumber k 0
 unfolding slotNumber
 slots-of-nodes k = omega arith
-
-slot-below : (j k t : ℕ) → j < k → t ≤ lanes → slotNumber j t < slotNumber k 0
-unfolding slotNumber
-slot-below j k t l u = omega arith
 
 -- the marks of all these nodes are those of the first so many of them
 marks-before-all : (p : Profile) (ns : List Node) → laidMarksFrom p ns ≡ marksBefore p (length ns) ns
@@ -117,15 +113,6 @@ module _ (p : Profile) (stands : Standing p) where
   -- slot by slot and node by node they are all marks of the profile
   pub all-of-walks : inSlots 0 (length (p .nodes) * slotsPerNode) (walkMarks p) ≡ laidMarksFrom p (p .nodes)
   all-of-walks = first-nodes (length (p .nodes)) (omega arith) ∙ sym (marks-before-all p (p .nodes))
-
-  -- no slot is past those of the nodes
-  pub walks-in-range : Each (λ m. m .slot < slotNumber (length (p .nodes)) 0) (walkMarks p)
-  unfolding walkMarks
-  walks-in-range =
-      each-in-slot (walk (p .nodes)) (p .bands)
-      (λ b i s k. let ends = stands .ends-stand b i in
-      let slot = walk-only (p .nodes) b (stands .keys-ascend) (stands .levels-right) (ends .0) (ends .1) s k in
-      rw (slot .4) (slot-below (slot .0) (length (p .nodes)) (slot .1) (slot .2) (slot .3)))
 
   -- they are as many as the marks in use
   pub walks-count : length (walkMarks p) ≡ marksInUse p

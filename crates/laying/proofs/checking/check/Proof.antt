@@ -1,6 +1,12 @@
 -- `laying::checking::check` meets its contract: each test takes one part of all that is tested.
 -- Assumes nothing.
+use Prim.Native.Nat.{_≤_}
 use borrow.Author.Needs.{needs}
+use lib.ListN.{length}
+use Rattle.rules.specs.Room.{mostNodes, mostMarks}
+use Rattle.rules.proofs.Connectives.{both}
+use Rattle.rules.proofs.Means.{and-both}
+use Rattle.laying.specs.NodePlaces.{inUse}
 use Rattle.laying.specs.Tested.{tested}
 use Rattle.laying.proofs.TestsInOrder.{passed, decided, left-to-next, within-most}
 use Rattle.laying.proofs.checking.check.Statement.{statement}
@@ -16,83 +22,55 @@ returns c = decided (c .before .sizes-right .ensures) _ (c .if1 .taken)
 band-places-right-requires : tie.Need-band-places-right-requires
 band-places-right-requires c κs = search needs
 
-returns-2 : tie.Need-returns-2
-unfolding tested
-returns-2 c =
-    let sizes = c .before .before in
-    left-to-next (sizes .before .sizes-right .ensures) _ (sizes .if1 .left)
-    (decided (c .before .band-places-right .ensures) _ (c .if2 .taken))
-
 node-places-right-requires : tie.Need-node-places-right-requires
 node-places-right-requires c κs = search needs
 
-returns-3 : tie.Need-returns-3
+returns-2 : tie.Need-returns-2
 unfolding tested
-returns-3 c =
-    let band-places = c .before .before in
-    let sizes = band-places .before .before in
+returns-2 c =
+    let sizes = c .before .before .before in
     left-to-next (sizes .before .sizes-right .ensures) _ (sizes .if1 .left)
-    (left-to-next (band-places .before .band-places-right .ensures) _ (band-places .if2 .left)
-    (decided (c .before .node-places-right .ensures) _ (c .if3 .taken)))
+    (decided (both (c .before .before .band-places-right .ensures) (c .before .node-places-right .ensures)) _ (c .if2 .taken))
+
+-- once sizes and places have passed, nodes and marks are within the most that there are words for
+within : (c : tie.Else2)
+    → (inUse (c .before .before .before .before .before .before .before .before .args .nodes .now) ≤ mostNodes)
+    × (length (c .before .before .before .before .before .before .before .before .args .marks .now) ≤ mostMarks)
+within c =
+    let sizes = c .before .before .before in
+    let args = sizes .before .before .before .before .before .args in
+    let places = passed (both (c .before .before .band-places-right .ensures) (c .before .node-places-right .ensures)) (c .if2 .left) in
+    within-most (args .bands .now) (args .nodes .now) (args .marks .now)
+    (passed (sizes .before .sizes-right .ensures) (sizes .if1 .left)) (and-both _ _ places .1)
 
 ends-match-requires : tie.Need-ends-match-requires
-ends-match-requires c κs =
-    let sizes = c .before .before .before .before in
-    let args = sizes .before .before .before .before .before .args in
-    within-most (args .bands .now) (args .nodes .now) (args .marks .now)
-    (passed (sizes .before .sizes-right .ensures) (sizes .if1 .left))
-    (passed (c .before .node-places-right .ensures) (c .if3 .left)) .0
-
-returns-4 : tie.Need-returns-4
-unfolding tested
-returns-4 c =
-    let node-places = c .before .before in
-    let band-places = node-places .before .before in
-    let sizes = band-places .before .before in
-    left-to-next (sizes .before .sizes-right .ensures) _ (sizes .if1 .left)
-    (left-to-next (band-places .before .band-places-right .ensures) _ (band-places .if2 .left)
-    (left-to-next (node-places .before .node-places-right .ensures) _ (node-places .if3 .left)
-    (decided (c .before .ends-match .ensures) _ (c .if4 .taken))))
+ends-match-requires c κs = within c .0
 
 links-right-requires : tie.Need-links-right-requires
 links-right-requires c κs = search needs
 
-returns-5 : tie.Need-returns-5
+returns-3 : tie.Need-returns-3
 unfolding tested
-returns-5 c =
-    let ends = c .before .before in
-    let node-places = ends .before .before in
-    let band-places = node-places .before .before in
-    let sizes = band-places .before .before in
+returns-3 c =
+    let places = c .before .before .before in
+    let sizes = places .before .before .before in
     left-to-next (sizes .before .sizes-right .ensures) _ (sizes .if1 .left)
-    (left-to-next (band-places .before .band-places-right .ensures) _ (band-places .if2 .left)
-    (left-to-next (node-places .before .node-places-right .ensures) _ (node-places .if3 .left)
-    (left-to-next (ends .before .ends-match .ensures) _ (ends .if4 .left)
-    (decided (c .before .links-right .ensures) _ (c .if5 .taken)))))
+    (left-to-next (both (places .before .before .band-places-right .ensures) (places .before .node-places-right .ensures)) _ (places .if2 .left)
+    (decided (both (c .before .before .ends-match .ensures) (c .before .links-right .ensures)) _ (c .if3 .taken)))
 
 marks-right-requires : tie.Need-marks-right-requires
-marks-right-requires c κs =
-    let node-places = c .before .before .before .before in
-    let sizes = node-places .before .before .before .before in
-    let args = sizes .before .before .before .before .before .args in
-    within-most (args .bands .now) (args .nodes .now) (args .marks .now)
-    (passed (sizes .before .sizes-right .ensures) (sizes .if1 .left))
-    (passed (node-places .before .node-places-right .ensures) (node-places .if3 .left))
+marks-right-requires c κs = within (c .before .before .before)
 
-returns-6 : tie.Need-returns-6
+returns-4 : tie.Need-returns-4
 unfolding tested
-returns-6 c =
-    let links = c .before in
-    let ends = links .before .before in
-    let node-places = ends .before .before in
-    let band-places = node-places .before .before in
-    let sizes = band-places .before .before in
+returns-4 c =
+    let joins = c .before in
+    let places = joins .before .before .before in
+    let sizes = places .before .before .before in
     left-to-next (sizes .before .sizes-right .ensures) _ (sizes .if1 .left)
-    (left-to-next (band-places .before .band-places-right .ensures) _ (band-places .if2 .left)
-    (left-to-next (node-places .before .node-places-right .ensures) _ (node-places .if3 .left)
-    (left-to-next (ends .before .ends-match .ensures) _ (ends .if4 .left)
-    (left-to-next (links .before .links-right .ensures) _ (links .if5 .left)
-    (c .marks-right .ensures)))))
+    (left-to-next (both (places .before .before .band-places-right .ensures) (places .before .node-places-right .ensures)) _ (places .if2 .left)
+    (left-to-next (both (joins .before .before .ends-match .ensures) (joins .before .links-right .ensures)) _ (joins .if3 .left)
+    (c .marks-right .ensures)))
 
 pub check-spec : {M : Type 1} → statement M
 check-spec =
@@ -101,12 +79,10 @@ check-spec =
     sizes-right-requires
     returns
     band-places-right-requires
-    returns-2
     node-places-right-requires
-    returns-3
+    returns-2
     ends-match-requires
-    returns-4
     links-right-requires
-    returns-5
+    returns-3
     marks-right-requires
-    returns-6)
+    returns-4)
