@@ -17,10 +17,9 @@ use Rattle.rules.proofs.Connectives.{both}
 use Rattle.rules.proofs.Means.{itself, or-right, same-means}
 use Rattle.rules.proofs.Lists.{all-append, all-from-means}
 use Rattle.store.specs.Sizes.{bandPlaces}
-use Rattle.store.specs.Places.{bandField, liveField}
+use Rattle.store.specs.Places.{bandField, liveField, inUse}
 use Rattle.store.specs.SaidProfile.{saidBand}
 use Rattle.search.specs.PlaceOf.{placeOf}
-use Rattle.laying.specs.NodePlaces.{inUse}
 use Rattle.laying.specs.Ends.{endPlacesOf, endPlacesFrom, endPlaces, endsMatch, noted}
 
 and-true : (t : Bool) → t and true ≡ t

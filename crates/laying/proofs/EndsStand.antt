@@ -18,12 +18,11 @@ use Rattle.rules.proofs.Lists.{In, Some, Each, some-cons, all-means, member-mea
 use Rattle.rules.proofs.NodesLanesEdges.{Asc, NodeAt, EndOf, stands-at-means}
 use Rattle.rules.proofs.Theory.EdgesOut.{one-place}
 use Rattle.store.specs.Sizes.{bandPlaces, nodePlaceWords}
-use Rattle.store.specs.Places.{bandField, liveField, nodeField, keyField}
+use Rattle.store.specs.Places.{bandField, liveField, nodeField, keyField, inUse}
 use Rattle.store.specs.SaidProfile.{saidBand, saidBandsFrom, saidBands, saidNode, saidNodes}
 use Rattle.store.proofs.SaidNodes.{said-here, said-key, in-said-nodes}
 use Rattle.search.specs.PlaceOf.{placeOf}
 use Rattle.search.proofs.PlaceAmongSaid.{PlaceFound, nowhere, at-place, place-among-said}
-use Rattle.laying.specs.NodePlaces.{inUse}
 use Rattle.laying.specs.Ends.{endPlacesOf, endPlacesFrom, endPlaces, endsMatch}
 
 module _ (bands nodes : List ℕ) where

@@ -18,8 +18,7 @@ use Rattle.rules.specs.NodesLanesEdges.{lanes}
 use Rattle.rules.proofs.Lists.{all-from-same, all-from-last}
 use Rattle.rules.proofs.Connectives.{both}
 use Rattle.rules.proofs.Means.{false-and, and-true, and-means, and-fails, lt-means, lt-fails}
-use Rattle.store.specs.Places.{nodeField, header, levelField, linkField}
-use Rattle.laying.specs.NodePlaces.{inUse}
+use Rattle.store.specs.Places.{nodeField, header, levelField, linkField, inUse}
 use Rattle.laying.specs.Links.{nextFrom, linkedLanes, linkRight, placeLinksRight, linksRight, linkDue, raisedFrom, raised}
 use Rattle.laying.proofs.NextPlaces.{next-here-or-on, no-next-past}
 

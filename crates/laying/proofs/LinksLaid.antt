@@ -11,11 +11,10 @@ use lib.ListN.{drop}
 use Rattle.rules.specs.NodesLanesEdges.{Node, lanes, takesPart}
 use Rattle.rules.proofs.Lists.{all-from-means, rest-follows}
 use Rattle.rules.proofs.Means.{Means, reworded, eq-means}
-use Rattle.store.specs.Places.{nodeField, linkField, header}
+use Rattle.store.specs.Places.{nodeField, linkField, header, inUse}
 use Rattle.store.specs.SaidProfile.{saidNode, saidNodes}
 use Rattle.store.specs.LaidNodes.{nextPlace}
 use Rattle.store.proofs.SaidNodes.{said-here, said-in-use}
-use Rattle.laying.specs.NodePlaces.{inUse}
 use Rattle.laying.specs.Links.{nextFrom, linkedLanes, linkRight, placeLinksRight, linksRight}
 use Rattle.laying.proofs.NextPlaces.{node-lanes, next-among-said}
 

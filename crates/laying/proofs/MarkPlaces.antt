@@ -13,16 +13,15 @@ use Rattle.rules.specs.Staircase.{slotsPerNode, slotNumber}
 use Rattle.rules.proofs.Means.{Means, reworded, and-means, and3-means, le-means, eq-means}
 use Rattle.rules.proofs.Lists.{EachLane, all-from-means, same-numbers-means}
 use Rattle.rules.proofs.SoundMemory.{Standing}
-use Rattle.store.specs.Places.{nodeField, fenceField, header, marksInUseField}
-use Rattle.store.specs.SaidProfile.{saidNodes}
+use Rattle.store.specs.Places.{nodeField, fenceField, header, marksInUseField, inUse}
+use Rattle.store.specs.SaidProfile.{saidNodes, saidBy}
 use Rattle.store.specs.LaidMarks.{slotsMarks, laidMarks}
 use Rattle.store.proofs.LaidMarks.{marksBefore}
 use Rattle.store.proofs.SaidNodes.{said-nodes-length, said-here, said-in-use}
 use Rattle.marking.specs.Buckets.{Mark, startOf}
 use Rattle.marking.specs.Staircases.{staircases}
 use Rattle.marking.proofs.Linked.{Linked}
-use Rattle.marking.proofs.StaircasesLay.{saidBy, marks-count, all-slots, slot-starts}
-use Rattle.laying.specs.NodePlaces.{inUse}
+use Rattle.marking.proofs.StaircasesLay.{marks-count, all-slots, slot-starts}
 use Rattle.laying.specs.MarkPlaces.{marksInUseRight, fenceRight, fencesRight, marksStand, marksRight}
 
 -- each fence stands past the marks of the nodes before its own and of the slots before its own

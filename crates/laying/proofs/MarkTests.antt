@@ -17,7 +17,7 @@ use Rattle.rules.specs.Room.{mostMarks}
 use Rattle.rules.specs.Staircase.{slotsPerNode, slotNumber}
 use Rattle.rules.proofs.Means.{false-and}
 use Rattle.rules.proofs.Lists.{all-from-same}
-use Rattle.store.specs.Places.{nodeField, fenceField, header, marksInUseField}
+use Rattle.store.specs.Places.{nodeField, fenceField, header, marksInUseField, inUse}
 use Rattle.store.specs.Padded.{padded}
 use Rattle.store.proofs.Padded.{padded-taken}
 use Rattle.marking.specs.Buckets.{Mark, inSlots, startsFrom, laidOf, withMarks}
@@ -27,7 +27,6 @@ use Rattle.marking.proofs.InSlots.{slots-count}
 use Rattle.marking.proofs.CountsAndStarts.{countsOf, counts-at-most, starts-are}
 use Rattle.marking.proofs.BucketLaw.{laid-in-slots}
 use Rattle.marking.proofs.StaircasesInRange.{staircases-in-range}
-use Rattle.laying.specs.NodePlaces.{inUse}
 use Rattle.laying.specs.MarkPlaces.{marksInUseRight, fenceRight, fencesRight, marksStand, marksRight, fencesAt, marksLaid}
 
 -- ---- going through words and fences

@@ -11,11 +11,10 @@ use borrow.Author.Tests.{ne-eqb}
 use lib.Dec.{ltb}
 use lib.ListN.{drop}
 use Rattle.rules.specs.NodesLanesEdges.{takesPart}
-use Rattle.store.specs.Places.{nodeField, levelField}
+use Rattle.store.specs.Places.{nodeField, levelField, inUse}
 use Rattle.store.specs.SaidProfile.{saidNode, saidNodes}
 use Rattle.store.specs.LaidNodes.{nextPlace}
 use Rattle.store.proofs.SaidNodes.{said-from}
-use Rattle.laying.specs.NodePlaces.{inUse}
 use Rattle.laying.specs.Links.{nextFrom, linkedLanes}
 
 -- in as many as its level says

@@ -17,9 +17,9 @@ use Rattle.rules.proofs.Means.{Means, reworded, and-means, or-means, le-means, 
 use Rattle.rules.proofs.Lists.{Each, each-cons}
 use Rattle.rules.proofs.NodesLanesEdges.{Asc, Level, is-level-means}
 use Rattle.store.specs.Sizes.{nodePlaceWords}
-use Rattle.store.specs.Places.{nodeField, keyField, header, laneCountField, marksInUseField, fenceField}
+use Rattle.store.specs.Places.{nodeField, keyField, header, laneCountField, marksInUseField, fenceField, inUse}
 use Rattle.store.specs.SaidProfile.{saidNode, saidNodesFrom, saidNodes}
-use Rattle.laying.specs.NodePlaces.{inUse, nodesFit, headerRight, nodeRight, restFree, nodePlacesRight}
+use Rattle.laying.specs.NodePlaces.{nodesFit, headerRight, nodeRight, restFree, nodePlacesRight}
 use Rattle.laying.proofs.FreeWords.{zeros-mean}
 
 pub record NodesStand (nodes : List ℕ) : Type 0 where

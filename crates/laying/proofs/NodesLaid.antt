@@ -9,13 +9,12 @@ use lib.ListN.{length}
 use Rattle.rules.specs.Marks.{marksInUse}
 use Rattle.rules.proofs.SoundMemory.{Standing}
 use Rattle.store.specs.Sizes.{nodePlaceWords}
-use Rattle.store.specs.Places.{nodeField, header, marksInUseField}
+use Rattle.store.specs.Places.{nodeField, header, marksInUseField, inUse}
 use Rattle.store.specs.LaidNodes.{laidNodes}
 use Rattle.store.proofs.SaidNodes.{said-nodes-length, said-key, said-level}
 use Rattle.store.proofs.LaidNodes.{laid-nodes-length}
 use Rattle.store.proofs.NodeWords.{NodeWords, laid-node-words, one-node-words}
-use Rattle.marking.proofs.StaircasesLay.{saidBy}
-use Rattle.laying.specs.NodePlaces.{inUse}
+use Rattle.store.specs.SaidProfile.{saidBy}
 use Rattle.laying.proofs.NodePlaces.{NodesStand}
 use Rattle.laying.proofs.LinksLaid.{LinksLaid}
 use Rattle.laying.proofs.MarkPlaces.{FencesLaid, MarksLaid}

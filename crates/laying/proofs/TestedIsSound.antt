@@ -13,7 +13,7 @@ use Rattle.rules.proofs.BoxSaysNo.{BandRight, room-in-range-means}
 use Rattle.rules.proofs.SoundMemory.{Standing, Fitting, sound-in-means}
 use Rattle.store.specs.Sizes.{sizesRight, roomFor, lengthsFor}
 use Rattle.store.specs.Memory.{Memory, lent, lengthsIn, roomIn}
-use Rattle.store.specs.SaidProfile.{saidBands, saidNodes, saidProfile}
+use Rattle.store.specs.SaidProfile.{saidBands, saidNodes, saidProfile, saidBy}
 use Rattle.store.specs.LaidBands.{laidBands}
 use Rattle.store.specs.LaidNodes.{laidNodes}
 use Rattle.store.specs.LaidMarks.{laidMarks}
@@ -24,7 +24,6 @@ use Rattle.store.proofs.SaidBands.{said-bands-ascend}
 use Rattle.store.proofs.SaidNodes.{said-nodes-length}
 use Rattle.store.proofs.Sound.{Sound, sound-means}
 use Rattle.marking.proofs.Linked.{Linked}
-use Rattle.marking.proofs.StaircasesLay.{saidBy}
 use Rattle.laying.specs.Tested.{tested}
 use Rattle.laying.proofs.BandPlaces.{band-places-mean}
 use Rattle.laying.proofs.NodePlaces.{NodesStand, node-places-mean}

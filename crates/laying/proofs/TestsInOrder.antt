@@ -15,8 +15,9 @@ use Rattle.rules.proofs.Means.{false-and}
 use Rattle.store.specs.Sizes.{sizesRight}
 use Rattle.store.specs.Memory.{lent, lengthsIn}
 use Rattle.store.proofs.RightSizes.{sizes-in-numbers}
-use Rattle.laying.specs.NodePlaces.{inUse, nodePlacesRight}
+use Rattle.laying.specs.NodePlaces.{nodePlacesRight}
 use Rattle.laying.proofs.NodePlaces.{node-places-mean}
+use Rattle.store.specs.Places.{inUse}
 
 -- the code asks of each answer whether it is no
 module _ {answer a : Bool} (same : answer ≡ a) where

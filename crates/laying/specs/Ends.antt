@@ -8,10 +8,9 @@ use Rattle.rules.specs.Connectives.{_and_, saysYes}
 use Rattle.rules.specs.Lists.{onlyIf, all, allFrom, member}
 use Rattle.rules.specs.HallLine.{Band}
 use Rattle.store.specs.Sizes.{bandPlaces}
-use Rattle.store.specs.Places.{bandField, liveField}
+use Rattle.store.specs.Places.{bandField, liveField, inUse}
 use Rattle.store.specs.SaidProfile.{saidBand}
 use Rattle.search.specs.PlaceOf.{placeOf}
-use Rattle.laying.specs.NodePlaces.{inUse}
 
 -- the places of the ends of the band of number b, if it is live; 0 where no node stands
 unfoldable pub endPlacesOf : List ℕ → List ℕ → ℕ → List ℕ

@@ -7,10 +7,9 @@ use lib.Dec.{ltb, eqb}
 use lib.ListN.{getD}
 use Rattle.rules.specs.Lists.{allFrom}
 use Rattle.rules.specs.NodesLanesEdges.{lanes}
-use Rattle.store.specs.Places.{nodeField, levelField, linkField}
+use Rattle.store.specs.Places.{nodeField, levelField, linkField, inUse}
 use Rattle.store.specs.SaidProfile.{saidNodesFrom}
 use Rattle.store.specs.LaidNodes.{nextPlace}
-use Rattle.laying.specs.NodePlaces.{inUse}
 
 -- the first place from i on, among those in use, whose node takes part in the lane; 0 for none
 unfoldable pub nextFrom : List ℕ → ℕ → ℕ → ℕ

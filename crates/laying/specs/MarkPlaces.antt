@@ -8,11 +8,10 @@ use lib.ListN.{length, getD}
 use Rattle.rules.specs.Connectives.{_and_}
 use Rattle.rules.specs.Lists.{allFrom, sameNumbers}
 use Rattle.rules.specs.Staircase.{slotsPerNode, slotNumber}
-use Rattle.store.specs.Places.{nodeField, fenceField, header, marksInUseField}
+use Rattle.store.specs.Places.{nodeField, fenceField, header, marksInUseField, inUse}
 use Rattle.store.specs.Padded.{padded}
 use Rattle.marking.specs.Buckets.{Mark, inSlots, startOf, laidOf, withMarks}
 use Rattle.marking.specs.Staircases.{staircases}
-use Rattle.laying.specs.NodePlaces.{inUse}
 
 -- there is room for the marks, and the header counts them
 unfoldable pub marksInUseRight : List ℕ → List ℕ → List Mark → Bool

@@ -10,12 +10,8 @@ use Rattle.rules.specs.Connectives.{_and_, _or_}
 use Rattle.rules.specs.Lists.{allFrom}
 use Rattle.rules.specs.NodesLanesEdges.{lanes, isLevel}
 use Rattle.store.specs.Sizes.{nodePlaceWords}
-use Rattle.store.specs.Places.{nodeField, keyField, levelField, header, nodesInUseField, laneCountField, marksInUseField}
+use Rattle.store.specs.Places.{nodeField, keyField, levelField, header, laneCountField, marksInUseField, inUse}
 use Rattle.laying.specs.Zeros.{zerosBetween}
-
--- how many nodes the header counts
-abbrev pub inUse : List ℕ → ℕ
-inUse nodes = nodeField nodes header nodesInUseField
 
 -- the nodes in use have their places, and the header its own
 unfoldable pub nodesFit : List ℕ → Bool

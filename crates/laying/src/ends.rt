@@ -6,8 +6,8 @@ ghost use Rattle.rules.specs.Connectives.{saysYes};
 ghost use Rattle.rules.specs.Lists.{all, allFrom};
 ghost use Rattle.rules.specs.Room.{mostNodes};
 ghost use Rattle.store.specs.Sizes.{bandPlaces};
-ghost use Rattle.laying.specs.NodePlaces.{inUse};
 ghost use Rattle.laying.specs.Ends.{endPlacesOf, endPlaces, endsMatch, noted};
+ghost use Rattle.store.specs.Places.{inUse};
 
 const BAND_PLACES: usize = 1024;
 

@@ -5,8 +5,8 @@ ghost use lib.ListN.{length, take, replicate};
 ghost use Rattle.rules.specs.Lists.{allFrom, sameNumbers};
 ghost use Rattle.rules.specs.Room.{mostNodes, mostMarks};
 ghost use Rattle.rules.specs.Staircase.{slotsPerNode};
-ghost use Rattle.laying.specs.NodePlaces.{inUse};
 ghost use Rattle.laying.specs.MarkPlaces.{marksRight, fencesAt, marksLaid};
+ghost use Rattle.store.specs.Places.{inUse};
 
 // A cursor for each slot of 2,048 nodes, and one past the last.
 const MOST_CURSORS: usize = 18433;

@@ -2,7 +2,8 @@
 ghost use mathlib.Core.Path.{_≡_};
 ghost use Prim.Native.Nat.{_≤_, _<_, _^_};
 ghost use Rattle.rules.specs.Lists.{allFrom};
-ghost use Rattle.laying.specs.NodePlaces.{inUse, nodeRight, nodePlacesRight};
+ghost use Rattle.laying.specs.NodePlaces.{nodeRight, nodePlacesRight};
+ghost use Rattle.store.specs.Places.{inUse};
 use crate::zeros;
 
 // Whether a node has a level of 1 to 8 and a key above that of the node before it, if there is one.

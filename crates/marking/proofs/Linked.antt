@@ -9,12 +9,12 @@ use lib.ListN.{length, drop}
 use Rattle.rules.specs.NodesLanesEdges.{Node, lanes, takesPart}
 use Rattle.rules.proofs.NodesLanesEdges.{Asc}
 use Rattle.store.specs.Sizes.{nodePlaceWords}
-use Rattle.store.specs.Places.{nodeField, linkField, header, nodesInUseField}
+use Rattle.store.specs.Places.{nodeField, linkField, inUse}
 use Rattle.store.specs.SaidProfile.{saidNodes}
 use Rattle.store.specs.LaidNodes.{nextPlace}
 
 pub record Linked (nodes : List ℕ) : Type 0 where
-  pub fits : nodeField nodes header nodesInUseField ≤ length nodes / nodePlaceWords - 1
+  pub fits : inUse nodes ≤ length nodes / nodePlaceWords - 1
   pub ascend : Asc 0 (saidNodes nodes)
   pub link :
       (j : ℕ) (n : Node) (rest : List Node) → drop j (saidNodes nodes) ≡ n ∷ rest → (i : ℕ) → i < lanes

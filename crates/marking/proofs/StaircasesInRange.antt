@@ -9,33 +9,19 @@ use mathlib.Core.List.{List, [], _++_}
 use borrow.Author.Tests.{eqb-false}
 use lib.Dec.{eqb}
 use Rattle.rules.specs.Connectives.{saysYes}
-use Rattle.rules.specs.Lists.{onlyIf, addIf}
 use Rattle.rules.specs.HallLine.{Band, holds}
 use Rattle.rules.specs.NodesLanesEdges.{lanes}
 use Rattle.rules.specs.Staircase.{slotsPerNode, slotNumber}
-use Rattle.rules.proofs.Lists.{Each, each-cons, in-append, in-map}
+use Rattle.rules.proofs.Lists.{Each, each-cons, each-append, each-only-if, each-add-if, in-map}
 use Rattle.store.specs.Sizes.{bandPlaces}
-use Rattle.store.specs.Places.{nodeField, keyField, header, nodesInUseField, bandField, liveField}
+use Rattle.store.specs.Places.{nodeField, keyField, bandField, liveField, inUse}
 use Rattle.store.specs.SaidProfile.{saidBand}
 use Rattle.search.specs.PlaceOf.{placeOf}
 use Rattle.search.proofs.PlaceSteps.{place-in-use, places-in-use-counted}
 use Rattle.marking.specs.WordWalk.{leadsWithin, stairBelow, stairAt, stairTo, visited, walkOn, walked, slotsOf}
 use Rattle.marking.specs.Buckets.{markOf}
 use Rattle.marking.specs.Staircases.{marksIn, staircasesFrom, staircases}
-use Rattle.marking.proofs.WalkedSlots.{inUse, stair-onward}
-
--- what is so of each element of two lists is so of each of the two joined, and of each that a test leaves
-each-append : {A : Type 0} {P : A → Type 0} (xs ys : List A) → Each P xs → Each P ys → Each P (xs ++ ys)
-each-append xs ys h k x i = ⊎-elim (h x) (k x) (in-append x xs ys .0 i)
-
-module _ {A : Type 0} {P : A → Type 0} where
-  each-only-if : (t : Bool) (xs : List A) → Each P xs → Each P (onlyIf t xs)
-  each-only-if true xs h = h
-  each-only-if false xs h = λ x i. absurd i
-
-  each-add-if : (t : Bool) (x : A) (xs : List A) → P x → Each P xs → Each P (addIf t x xs)
-  each-add-if true x xs p h = each-cons x xs .1 (p, h)
-  each-add-if false x xs p h = h
+use Rattle.marking.proofs.WalkedSlots.{stair-onward}
 
 module _ (nodes : List ℕ) where
   -- a slot of a node in use
@@ -104,6 +90,6 @@ module _ (nodes : List ℕ) where
       (staircases-from-in-range bands (suc b) m)
 
 pub staircases-in-range : (bands nodes : List ℕ)
-    → Each (λ m. m .slot < nodeField nodes header nodesInUseField * slotsPerNode) (staircases bands nodes)
+    → Each (λ m. m .slot < inUse nodes * slotsPerNode) (staircases bands nodes)
 unfolding staircases
 staircases-in-range bands nodes = staircases-from-in-range nodes bands 0 bandPlaces

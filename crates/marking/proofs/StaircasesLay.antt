@@ -10,13 +10,12 @@ use lib.ListN.{length, drop}
 use Rattle.rules.specs.Lists.{addIf, onlyIf}
 use Rattle.rules.specs.HallLine.{Band}
 use Rattle.rules.specs.NodesLanesEdges.{Node, lanes}
-use Rattle.rules.specs.Profile.{Profile, profileOf}
 use Rattle.rules.specs.Marks.{marksInUse}
 use Rattle.rules.specs.Staircase.{slotsPerNode, slotNumber, walk}
 use Rattle.rules.proofs.Lists.{Each}
 use Rattle.rules.proofs.SoundMemory.{Standing}
 use Rattle.store.specs.Sizes.{bandPlaces}
-use Rattle.store.specs.SaidProfile.{saidBand, saidBandsFrom, saidBands, saidNodes}
+use Rattle.store.specs.SaidProfile.{saidBand, saidBandsFrom, saidBands, saidNodes, saidBy}
 use Rattle.store.specs.LaidMarks.{slotMarks, slotsMarks, laidMarksFrom}
 use Rattle.store.proofs.SaidBands.{saysLive}
 use Rattle.store.proofs.LaidMarks.{marksBefore}
@@ -27,10 +26,6 @@ use Rattle.marking.proofs.Linked.{Linked}
 use Rattle.marking.proofs.WalkOnLinked.{walk-on-linked}
 use Rattle.marking.proofs.BandMarks.{marksAlong}
 use Rattle.marking.proofs.WalkMarks.{walkMarks, slot-of-walks, walks-count, all-of-walks, start-of-walks}
-
--- the profile that band words and node words say
-abbrev pub saidBy : List ℕ → List ℕ → Profile
-saidBy bands nodes = profileOf (saidBands bands) (saidNodes nodes)
 
 -- going through the numbers, a live one brings the marks of its band, and another none
 staircases-from : (bands nodes : List ℕ) (slots : Band → List ℕ) (b m : ℕ)

@@ -21,7 +21,7 @@ use Rattle.rules.proofs.Lists.{in-at-place, rest-follows, ascends-from}
 use Rattle.rules.proofs.NodesLanesEdges.{Asc, NodeAt, stands-at-means}
 use Rattle.rules.proofs.Theory.EdgesOut.{all-ahead, from-place-ahead}
 use Rattle.rules.proofs.Theory.Staircase.{add-append}
-use Rattle.store.specs.Places.{nodeField, linkField, header, nodesInUseField}
+use Rattle.store.specs.Places.{nodeField, linkField, inUse}
 use Rattle.store.specs.SaidProfile.{saidNodes}
 use Rattle.store.specs.LaidNodes.{nextPlace}
 use Rattle.store.proofs.SaidNodes.{said-nodes-length, said-in-use, said-key}
@@ -137,11 +137,11 @@ module _ (nodes : List ℕ) (l : Linked nodes) (b : Band) where
   walk-on-linked low = from (place-among-said nodes (b .low) (l .fits) (l .ascend))
     where
       from : PlaceFound (saidNodes nodes) (b .low) (placeOf nodes (b .low)) (standsAt (b .low) (saidNodes nodes))
-          → walkOn nodes b (nodeField nodes header nodesInUseField) (placeOf nodes (b .low)) ≡ walkFrom b (b .low) 0 (saidNodes nodes)
+          → walkOn nodes b (inUse nodes) (placeOf nodes (b .low)) ≡ walkFrom b (b .low) 0 (saidNodes nodes)
       from (nowhere p s) = never (sym s ∙ stands-at-means (b .low) (saidNodes nodes) .test low)
       from (at-place j n rest at k p s) =
           rw p
-          (walk-alike (nodeField nodes header nodesInUseField) j n rest at
+          (walk-alike (inUse nodes) j n rest at
           (omega (arith, length-drop j (saidNodes nodes), ap length at, said-nodes-length nodes))
           ∙ ap (λ i. walkFrom b (n .key) i (n ∷ rest)) (sym (zero-add j))
           ∙ sym (skips-to b 0 0 j (saidNodes nodes) (l .ascend) at)

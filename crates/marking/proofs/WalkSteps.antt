@@ -15,7 +15,7 @@ use Rattle.rules.specs.Lists.{onlyIf, addIf}
 use Rattle.rules.specs.HallLine.{Band, holds}
 use Rattle.rules.specs.Staircase.{slotsPerNode, slotNumber}
 use Rattle.rules.proofs.Connectives.{both}
-use Rattle.store.specs.Places.{nodeField, keyField, linkField, header, nodesInUseField}
+use Rattle.store.specs.Places.{nodeField, keyField, linkField, inUse}
 use Rattle.marking.specs.WordWalk.{leadsWithin, stairBelow, stairTo, visited}
 
 -- of one lane more the highest has this number
@@ -24,7 +24,7 @@ highest-lane i = omega arith
 
 module _ (nodes : List ℕ) (here : ℕ) where
   -- the code's test of a link is the walk's
-  pub tests-link : (high lane : ℕ) {in-use next next-key : ℕ} → in-use ≡ nodeField nodes header nodesInUseField
+  pub tests-link : (high lane : ℕ) {in-use next next-key : ℕ} → in-use ≡ inUse nodes
       → next ≡ nodeField nodes here (linkField lane) → next-key ≡ nodeField nodes next keyField
       → (ltb here next && leb next in-use) && leb next-key high ≡ leadsWithin nodes high here lane
   unfolding leadsWithin

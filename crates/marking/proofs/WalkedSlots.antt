@@ -18,7 +18,7 @@ use Rattle.rules.specs.NodesLanesEdges.{lanes}
 use Rattle.rules.specs.Room.{mostNodes}
 use Rattle.rules.specs.Staircase.{slotNumber}
 use Rattle.rules.proofs.Means.{and-both}
-use Rattle.store.specs.Places.{nodeField, keyField, header, nodesInUseField, bandField, liveField}
+use Rattle.store.specs.Places.{nodeField, keyField, bandField, liveField, inUse}
 use Rattle.store.specs.SaidProfile.{saidBand}
 use Rattle.search.specs.PlaceOf.{placeOf}
 use Rattle.search.proofs.PlaceSteps.{place-in-use, places-in-use-counted}
@@ -37,10 +37,6 @@ stored-first : (words xs : List ℕ) → length xs ≤ length words → take (le
 stored-first words xs h = rw (sets-eq xs words 0 (omega arith)) (take-at xs _ (length xs) refl)
 
 -- ---- where a stair leads
-
--- as many nodes as the header counts
-abbrev pub inUse : List ℕ → ℕ
-inUse nodes = nodeField nodes header nodesInUseField
 
 -- the place is none, or a later one in use
 abbrev pub Onward : List ℕ → ℕ → ℕ → Type 0

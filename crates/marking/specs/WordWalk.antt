@@ -10,7 +10,7 @@ use Rattle.rules.specs.Lists.{onlyIf, addIf}
 use Rattle.rules.specs.HallLine.{Band, holds}
 use Rattle.rules.specs.NodesLanesEdges.{lanes}
 use Rattle.rules.specs.Staircase.{slotNumber}
-use Rattle.store.specs.Places.{nodeField, keyField, linkField, header, nodesInUseField, bandField, liveField}
+use Rattle.store.specs.Places.{nodeField, keyField, linkField, bandField, liveField, inUse}
 use Rattle.store.specs.SaidProfile.{saidBand}
 use Rattle.search.specs.PlaceOf.{placeOf}
 
@@ -18,7 +18,7 @@ use Rattle.search.specs.PlaceOf.{placeOf}
 unfoldable pub leadsWithin : List ℕ → ℕ → ℕ → ℕ → Bool
 leadsWithin nodes high here i =
     let next : ℕ = nodeField nodes here (linkField i) in
-    (ltb here next and leb next (nodeField nodes header nodesInUseField)) and leb (nodeField nodes next keyField) high
+    (ltb here next and leb next (inUse nodes)) and leb (nodeField nodes next keyField) high
 
 -- of the lowest m lanes the highest whose link does, as the slot of that edge: 1 + its number; 0 for none
 abbrev pub stairBelow : List ℕ → ℕ → ℕ → ℕ → ℕ
@@ -49,7 +49,7 @@ walkOn nodes b (suc m) here =
 
 -- the slots that the walk visits, from the node of the band's low end on
 unfoldable pub walked : List ℕ → Band → List ℕ
-walked nodes b = walkOn nodes b (nodeField nodes header nodesInUseField) (placeOf nodes (b .low))
+walked nodes b = walkOn nodes b (inUse nodes) (placeOf nodes (b .low))
 
 -- the slots of the band of a number; none where the number is not live
 unfoldable pub slotsOf : List ℕ → List ℕ → ℕ → List ℕ

@@ -8,7 +8,7 @@ ghost use Rattle.rules.specs.Lists.{onlyIf};
 ghost use Rattle.rules.specs.NodesLanesEdges.{lanes};
 ghost use Rattle.rules.specs.Room.{mostNodes};
 ghost use Rattle.hall.specs.SaidBand.{said};
-ghost use Rattle.store.specs.Places.{nodeField, header, nodesInUseField};
+ghost use Rattle.store.specs.Places.{inUse};
 ghost use Rattle.marking.specs.WordWalk.{leadsWithin, stairAt, stairTo, visited, walked, slotsOf};
 ghost use Rattle.marking.specs.Staircases.{mostSlots};
 use hall::Band;
@@ -105,7 +105,7 @@ fn visit(
 
 // Writes the slots of one band, and answers how many they are.
 fn walk(nodes: &[u32], band: Band, slots: &mut [u32]) -> usize
-    requires { ⌜ (nodeField (now nodes) header nodesInUseField ≤ mostNodes) × (length (now slots) ≡ mostSlots) ⌝ }
+    requires { ⌜ (inUse (now nodes) ≤ mostNodes) × (length (now slots) ≡ mostSlots) ⌝ }
     ensures { λ r. ⌜
         (r ≡ length (walked (now (nodes .entry)) (said band)))
         × (take r (now (slots .exit)) ≡ walked (now (nodes .entry)) (said band))
@@ -128,7 +128,7 @@ fn walk(nodes: &[u32], band: Band, slots: &mut [u32]) -> usize
 pub(crate) fn slots_of(bands: &[u32], nodes: &[u32], number: usize, slots: &mut [u32]) -> usize
     requires { ⌜
         (number < 2 ^ 32)
-        × (nodeField (now nodes) header nodesInUseField ≤ mostNodes)
+        × (inUse (now nodes) ≤ mostNodes)
         × (length (now slots) ≡ mostSlots)
         ⌝ }
     ensures { λ r. ⌜

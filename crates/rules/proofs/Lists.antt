@@ -14,7 +14,7 @@ use lib.ListN.{length, getD, drop, length-drop}
 use lib.Seq.{drop-nil, drop-drop}
 use borrow.Author.Tests.{ltb-true, ltb-false, lt-ltb, le-ltb}
 use Rattle.rules.specs.Connectives.{_and_, oneIf}
-use Rattle.rules.specs.Lists.{addIf, any, all, keep, firstOf, countIf, member, distinct, someLane, placed, sameNumbers, allFrom}
+use Rattle.rules.specs.Lists.{onlyIf, addIf, any, all, keep, firstOf, countIf, member, distinct, someLane, placed, sameNumbers, allFrom}
 use Rattle.rules.proofs.Means.{Fails, Means, and-fails, and-means, and-true, denied, eq-means, itself, never, not-means, or-fails, or-means, passes-or-fails, reworded}
 
 -- ---- lists
@@ -184,6 +184,19 @@ in-append x (y ∷ xs) ys =
       ⊎-elim (λ p. inl (inl p)) (λ i. ⊎-map inr (λ j. j) (e .0 i)),
       ⊎-elim (⊎-map (λ p. p) (λ i. e .1 (inl i))) (λ j. inr (e .1 (inr j))),
     )
+
+-- what is so of each element of two lists is so of each of the two joined, and of each that a test leaves
+pub each-append : {A : Type 0} {P : A → Type 0} (xs ys : List A) → Each P xs → Each P ys → Each P (xs ++ ys)
+each-append xs ys h k x i = ⊎-elim (h x) (k x) (in-append x xs ys .0 i)
+
+module _ {A : Type 0} {P : A → Type 0} where
+  pub each-only-if : (t : Bool) (xs : List A) → Each P xs → Each P (onlyIf t xs)
+  each-only-if true xs h = h
+  each-only-if false xs h = λ x i. absurd i
+
+  pub each-add-if : (t : Bool) (x : A) (xs : List A) → P x → Each P xs → Each P (addIf t x xs)
+  each-add-if true x xs p h = each-cons x xs .1 (p, h)
+  each-add-if false x xs p h = h
 
 -- all pass of two lists joined exactly when all of each do
 pub all-append : {A : Type 0} (f : A → Bool) (xs ys : List A) → all f (xs ++ ys) ≡ all f xs and all f ys

@@ -1,13 +1,13 @@
 -- What a row of the bench table asks of the rules, and when they answer as the row expects.
 -- Assumes nothing.
-use Prim.Native.Nat.{ℕ, suc, _+_}
+use Prim.Native.Nat.{ℕ, _+_}
 use mathlib.Core.Bool.{Bool, true, false, Bool·beq}
 use mathlib.Core.List.{List, [], _∷_, map}
 use mathlib.Core.Option.{Option, none, some}
 use lib.Dec.{eqb}
 use lib.ListN.{length}
 use Rattle.rules.specs.Connectives.{_and_}
-use Rattle.rules.specs.Lists.{addIf, sameNumbers}
+use Rattle.rules.specs.Lists.{addIf, failedFrom, sameNumbers}
 use Rattle.rules.specs.HallLine.{Band, bandOf, holds}
 use Rattle.rules.specs.NodesLanesEdges.{Node, Edge, edgesIn}
 use Rattle.rules.specs.Profile.{Profile}
@@ -203,5 +203,4 @@ rowRight (card bs k number place ns) =
 
 -- the places of the rows that are not right, counted from 1
 abbrev pub wrongFrom : ℕ → List Row → List ℕ
-wrongFrom place [] = []
-wrongFrom place (r ∷ rs) = addIf (Bool·beq (rowRight r) false) place (wrongFrom (suc place) rs)
+wrongFrom place rs = failedFrom rowRight place rs

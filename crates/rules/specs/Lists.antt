@@ -53,6 +53,12 @@ module _ {A : Type 0} where
   sumOf f [] = 0
   sumOf f (x ∷ xs) = f x + sumOf f xs
 
+module _ {A : Type 0} where
+  -- the places of those that fail, counted from `place` on
+  abbrev pub failedFrom : (A → Bool) → ℕ → List A → List ℕ
+  failedFrom f place [] = []
+  failedFrom f place (x ∷ xs) = addIf (not (f x)) place (failedFrom f (suc place) xs)
+
 -- the number stands in the list
 abbrev pub member : ℕ → List ℕ → Bool
 member n xs = any (eqb n) xs

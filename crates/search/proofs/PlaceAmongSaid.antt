@@ -17,7 +17,7 @@ use Rattle.rules.proofs.Lists.{some-cons, in-at-place, ascends-from}
 use Rattle.rules.proofs.NodesLanesEdges.{Asc, NodeAt, stands-at-means}
 use Rattle.rules.proofs.Theory.Passed.{Passed, none, passed-to, passed-ascends, at-key-ahead}
 use Rattle.store.specs.Sizes.{nodePlaceWords}
-use Rattle.store.specs.Places.{nodeField, keyField, header, nodesInUseField}
+use Rattle.store.specs.Places.{nodeField, keyField, header, inUse}
 use Rattle.store.specs.SaidProfile.{saidNode, saidNodes}
 use Rattle.store.proofs.SaidNodes.{said-nodes-length, said-here}
 use Rattle.search.specs.PlaceOf.{placesInUse, halfway, keyBelow, halved, firstNotBelow, placeOf}
@@ -36,19 +36,16 @@ none-at-key k n rest a h off s =
     ⊎-elim off (λ t. omega (arith, t .2, ascends-from (λ m. m .key) (suc (n .key)) rest (a .1) (t .0) (t .1))) (some-cons n rest .0 s)
 
 module _ (nodes : List ℕ) (k : ℕ) (ascend : Asc 0 (saidNodes nodes)) where
-  abbrev inUse : ℕ
-  inUse = nodeField nodes header nodesInUseField
-
   -- the first j nodes are below k
   abbrev FirstBelow : ℕ → Type 0
   FirstBelow j = Passed k j (saidNodes nodes) (drop j (saidNodes nodes))
 
   -- place i, if it is in use, is not below k
   abbrev NotBelow : ℕ → Type 0
-  NotBelow i = i ≤ inUse → k ≤ nodeField nodes i keyField
+  NotBelow i = i ≤ (inUse nodes) → k ≤ nodeField nodes i keyField
 
   -- where a place is below k, so are those before it
-  below-with-first : (i : ℕ) → 0 < i → i ≤ inUse → nodeField nodes i keyField < k → FirstBelow i
+  below-with-first : (i : ℕ) → 0 < i → i ≤ (inUse nodes) → nodeField nodes i keyField < k → FirstBelow i
   unfolding saidNode
   below-with-first zero p h b = absurd (omega arith)
   below-with-first (suc j) p h b = passed-to k 0 j (saidNodes nodes) (saidNode nodes (suc j)) _ ascend (said-here nodes j h) b
@@ -58,7 +55,7 @@ module _ (nodes : List ℕ) (k : ℕ) (ascend : Asc 0 (saidNodes nodes)) where
     below : FirstBelow low
     not-below : NotBelow high
     upward : low < high
-    within : high ≤ inUse + 1
+    within : high ≤ (inUse nodes) + 1
     enough : high ≤ low + suc m
 
   -- where the nodes part: after the first j, which are below k
@@ -103,17 +100,17 @@ module _ (nodes : List ℕ) (k : ℕ) (ascend : Asc 0 (saidNodes nodes)) where
   abbrev Found : Type 0
   Found = PlaceFound (saidNodes nodes) k (placeOf nodes k) (standsAt k (saidNodes nodes))
 
-  module _ (all : placesInUse nodes ≡ inUse) (j : ℕ) (first : firstNotBelow nodes k ≡ suc j) (below : FirstBelow j) where
+  module _ (all : placesInUse nodes ≡ (inUse nodes)) (j : ℕ) (first : firstNotBelow nodes k ≡ suc j) (below : FirstBelow j) where
     -- no node stands at k where none does after the first j
     none-stands : (NodeAt k (drop j (saidNodes nodes)) → ⊥) → standsAt k (saidNodes nodes) ≡ false
     none-stands h = denied (stands-at-means k (saidNodes nodes)) .test (λ s. h (at-key-ahead below s))
 
-    found-past : inUse ≤ j → Found
+    found-past : (inUse nodes) ≤ j → Found
     found-past h =
         let past = drop-of-length-le (saidNodes nodes) {i = j} (omega (arith, said-nodes-length nodes)) in
         nowhere (none-not-below nodes k first (omega arith)) (none-stands (rw past (λ s. s .1)))
 
-    found-there : j < inUse → k ≤ nodeField nodes (suc j) keyField → Found
+    found-there : j < (inUse nodes) → k ≤ nodeField nodes (suc j) keyField → Found
     unfolding saidNode
     found-there h not-below =
         let at = said-here nodes j h in
@@ -123,7 +120,7 @@ module _ (nodes : List ℕ) (k : ℕ) (ascend : Asc 0 (saidNodes nodes)) where
         (none-stands (rw at (none-at-key k _ (drop (suc j) (saidNodes nodes)) (rw at at (passed-ascends below 0 ascend)) not-below off))))
         (so-or-not (eq-means (nodeField nodes (suc j) keyField) k))
 
-  place-parts : placesInUse nodes ≡ inUse → Found
+  place-parts : placesInUse nodes ≡ (inUse nodes) → Found
   unfolding firstNotBelow
   place-parts all =
       let s = halving-parts (placesInUse nodes) header (placesInUse nodes + 1) (record {
@@ -133,9 +130,9 @@ module _ (nodes : List ℕ) (k : ℕ) (ascend : Asc 0 (saidNodes nodes)) where
         within = omega arith;
         enough = omega arith;
       }) in
-      ⊎-elim (found-past all (s .0) (s .1) (s .2)) (λ h. found-there all (s .0) (s .1) (s .2) h (s .3 h)) (at-most-or-above inUse (s .0))
+      ⊎-elim (found-past all (s .0) (s .1) (s .2)) (λ h. found-there all (s .0) (s .1) (s .2) h (s .3 h)) (at-most-or-above (inUse nodes) (s .0))
 
-pub place-among-said : (nodes : List ℕ) (k : ℕ) → nodeField nodes header nodesInUseField ≤ length nodes / nodePlaceWords - 1
+pub place-among-said : (nodes : List ℕ) (k : ℕ) → inUse nodes ≤ length nodes / nodePlaceWords - 1
     → Asc 0 (saidNodes nodes) → PlaceFound (saidNodes nodes) k (placeOf nodes k) (standsAt k (saidNodes nodes))
 unfolding placesInUse
 place-among-said nodes k h ascend = place-parts nodes k ascend (min-eq-left h)

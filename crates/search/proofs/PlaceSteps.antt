@@ -10,7 +10,7 @@ use borrow.Author.Tests.{lt-ltb, le-ltb, le-leb, lt-leb, eq-eqb, ne-eqb, leb-tru
 use lib.Dec.{leb, eqb}
 use Rattle.rules.specs.Connectives.{_and_}
 use Rattle.rules.proofs.Means.{and-both}
-use Rattle.store.specs.Places.{nodeField, keyField, header, nodesInUseField}
+use Rattle.store.specs.Places.{nodeField, keyField, header, inUse}
 use Rattle.search.specs.PlaceOf.{placesInUse, halfway, keyBelow, halved, firstNotBelow, placeOf}
 
 module _ (nodes : List ℕ) (k : ℕ) where
@@ -71,6 +71,6 @@ module _ (nodes : List ℕ) (k : ℕ) where
       go i true e = leb-true _ _ (and-both _ _ e .0)
       go i false e = omega arith
 
-pub places-in-use-counted : (nodes : List ℕ) → placesInUse nodes ≤ nodeField nodes header nodesInUseField
+pub places-in-use-counted : (nodes : List ℕ) → placesInUse nodes ≤ inUse nodes
 unfolding placesInUse
 places-in-use-counted nodes = omega arith

@@ -7,11 +7,11 @@ use lib.Dec.{leb, ltb, eqb}
 use lib.ListN.{length}
 use Rattle.rules.specs.Connectives.{_and_}
 use Rattle.store.specs.Sizes.{nodePlaceWords}
-use Rattle.store.specs.Places.{nodeField, keyField, header, nodesInUseField}
+use Rattle.store.specs.Places.{nodeField, keyField, header, inUse}
 
 -- the places in use, as far as there are words
 unfoldable pub placesInUse : List ℕ → ℕ
-placesInUse nodes = min (nodeField nodes header nodesInUseField) (length nodes / nodePlaceWords - 1)
+placesInUse nodes = min (inUse nodes) (length nodes / nodePlaceWords - 1)
 
 -- the place halfway between two
 abbrev pub halfway : ℕ → ℕ → ℕ

@@ -1,13 +1,11 @@
 -- The memory that the table starts from is sound; and whether a row is right, by a test that goes through the first band places alone.
 -- Assumes nothing.
-use Prim.Native.Nat.{ℕ, _+_, _-_, _*_, _≤_, _<_}
+use Prim.Native.Nat.{ℕ, _+_, _-_, _*_, _≤_}
 use mathlib.Core.Path.{_≡_, refl, sym, _∙_, ap}
 use mathlib.Core.Bool.{Bool, true, not}
-use mathlib.Core.List.{List, _++_, append-assoc}
 use native.Mathlib.Omega.{arith}
 use lib.Dec.{eqb, ltb}
-use lib.ListN.{length, set, replicate, length-set, replicate-append-replicate}
-use lib.Seq.{set-append-left}
+use lib.ListN.{length, length-set}
 use borrow.Author.Tests.{ltb-true}
 use Rattle.rules.specs.Connectives.{_and_}
 use Rattle.rules.specs.Computes.{computes}
@@ -20,24 +18,10 @@ use Rattle.store.specs.Padded.{padded}
 use Rattle.store.specs.LaidNodes.{laidHeader, laidNode, laidNodes}
 use Rattle.store.specs.LaidMarks.{slotMarks, nodeMarks, laidMarks}
 use Rattle.store.specs.Sound.{sound}
-use Rattle.store.proofs.Padded.{padded-length, zeros-read}
+use Rattle.store.proofs.Padded.{padded-length, padded-twice, set-padded, zeros-read}
 use Rattle.sharp.specs.Base.{bandWords, nodeWords, markWords, base}
 use Rattle.sharp.specs.Row.{Row, band, node, mark, changed, differs, rowRight}
 use Rattle.sharp.proofs.ZeroPast.{allBandWords, soundZeroPast, withZeros, sound-zero-past}
-
--- ---- zeros up to a length
-
-padded-twice : (n m : ℕ) (words : List ℕ) → length words ≤ m → m ≤ n → padded n (padded m words) ≡ padded n words
-unfolding padded
-padded-twice n m words l h =
-    let left : m - length words + (n - length (padded m words)) ≡ n - length words = omega (arith, padded-length m words l) in
-    simp (append-assoc, replicate-append-replicate, left)
-
-set-padded : (n : ℕ) (words : List ℕ) (i word : ℕ) → i < length words → set (padded n words) i word ≡ padded n (set words i word)
-unfolding padded
-set-padded n words i word l =
-    set-append-left words (replicate (n - length words) 0) i word l
-    ∙ ap (λ k. set words i word ++ replicate (n - k) 0) (sym (length-set words i word))
 
 -- ---- a row changes memory with zeros as it changes memory without them
 

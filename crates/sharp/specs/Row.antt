@@ -6,7 +6,6 @@ use mathlib.Core.List.{List, [], _∷_}
 use lib.Dec.{eqb}
 use lib.ListN.{getD, set}
 use Rattle.rules.specs.Connectives.{_and_}
-use Rattle.rules.specs.Lists.{addIf}
 use Rattle.store.specs.Sizes.{bandPlaceWords, nodePlaceWords}
 use Rattle.store.specs.Memory.{Memory, lent}
 use Rattle.store.specs.Places.{bandField, nodeField}
@@ -42,8 +41,3 @@ differs (mark i word) m = not (eqb (getD (m .marks) i 0) word)
 -- the definition calls the memory sound, and with this one word changed it says no
 unfoldable pub rowRight : Row → Bool
 rowRight r = sound base and differs r base and not (sound (changed r base))
-
--- the places of the rows that do not pass, counted from `place` on
-abbrev pub wrongFrom : (Row → Bool) → ℕ → List Row → List ℕ
-wrongFrom right place [] = []
-wrongFrom right place (r ∷ rs) = addIf (not (right r)) place (wrongFrom right (suc place) rs)

@@ -13,7 +13,7 @@ use Rattle.rules.specs.Profile.{Profile}
 use Rattle.rules.specs.Marks.{marksInUse}
 use Rattle.rules.specs.Staircase.{slotsPerNode}
 use Rattle.store.specs.Sizes.{nodePlaceWords}
-use Rattle.store.specs.Places.{nodeField, keyField, levelField, linkField, fenceField, header, nodesInUseField, marksInUseField}
+use Rattle.store.specs.Places.{nodeField, keyField, levelField, linkField, fenceField, header, nodesInUseField, marksInUseField, inUse}
 use Rattle.store.specs.LaidMarks.{slotsMarks, nodeMarks}
 use Rattle.store.specs.LaidNodes.{nextPlace, laidHeader, laidNode, laidNodesFrom, laidNodes}
 use Rattle.store.specs.Padded.{padded}
@@ -86,7 +86,7 @@ module _ (words : ℕ) (p : Profile) where
 
   -- ---- fields of the header
 
-  pub laid-in-use : nodeField (laidNodes words p) header nodesInUseField ≡ length (p .nodes)
+  pub laid-in-use : inUse (laidNodes words p) ≡ length (p .nodes)
   unfolding laidHeader
   laid-in-use = header-field nodesInUseField (omega arith)
 

@@ -9,7 +9,7 @@ use lib.ListN.{length, drop}
 use Rattle.rules.specs.NodesLanesEdges.{Node, lanes, takesPart}
 use Rattle.rules.specs.Profile.{Profile}
 use Rattle.rules.specs.Marks.{marksInUse}
-use Rattle.store.specs.Places.{nodeField, keyField, levelField, linkField, header, nodesInUseField, marksInUseField}
+use Rattle.store.specs.Places.{nodeField, keyField, levelField, linkField, header, marksInUseField, inUse}
 use Rattle.store.specs.SaidProfile.{saidNode, saidNodesFrom, saidNodes}
 use Rattle.store.specs.SaidMarks.{saidMarks}
 use Rattle.store.specs.LaidNodes.{nextPlace}
@@ -17,7 +17,7 @@ use Rattle.store.specs.LaidMarks.{slotMarks}
 use Rattle.rules.proofs.Lists.{rest-follows}
 
 pub record Lays (p : Profile) (nodes marks : List ℕ) : Type 0 where
-  pub in-use : nodeField nodes header nodesInUseField ≡ length (p .nodes)
+  pub in-use : inUse nodes ≡ length (p .nodes)
   pub marks-in-use : nodeField nodes header marksInUseField ≡ marksInUse p
   pub first-link : (i : ℕ) → i < lanes → nodeField nodes header (linkField i) ≡ nextPlace i 1 (p .nodes)
   -- the header's links carry no marks

@@ -14,7 +14,7 @@ use Rattle.rules.specs.Marks.{marksInUse}
 use Rattle.rules.specs.Staircase.{slotsPerNode}
 use Rattle.rules.proofs.Means.{at-most-or-above}
 use Rattle.store.specs.Sizes.{nodePlaceWords}
-use Rattle.store.specs.Places.{nodeField, keyField, levelField, linkField, fenceField, header, nodesInUseField, laneCountField, marksInUseField}
+use Rattle.store.specs.Places.{nodeField, keyField, levelField, linkField, fenceField, header, laneCountField, marksInUseField, inUse}
 use Rattle.store.specs.LaidMarks.{slotsMarks}
 use Rattle.store.specs.LaidNodes.{nextPlace, laidHeader, laidNodesFrom, laidNodes}
 use Rattle.store.proofs.Padded.{padded-past}
@@ -31,7 +31,7 @@ pub record RecordWords (p : Profile) (nodes : List ℕ) (j : ℕ) (n : Node) (re
       → nodeField nodes (suc j) (fenceField s) ≡ length (marksBefore p j (p .nodes)) + length (slotsMarks p n rest 0 s)
 
 pub record NodeWords (p : Profile) (nodes : List ℕ) : Type 0 where
-  pub in-use : nodeField nodes header nodesInUseField ≡ length (p .nodes)
+  pub in-use : inUse nodes ≡ length (p .nodes)
   pub lane-count : nodeField nodes header laneCountField ≡ lanes
   pub first-link : (i : ℕ) → i < lanes → nodeField nodes header (linkField i) ≡ nextPlace i 1 (p .nodes)
   pub marks-in-use : nodeField nodes header marksInUseField ≡ marksInUse p

@@ -8,26 +8,26 @@ use native.Mathlib.Omega.{arith}
 use lib.ListN.{length, drop}
 use Rattle.rules.specs.NodesLanesEdges.{Node}
 use Rattle.rules.proofs.Lists.{In, place-within, made-length, made-here, SomeLane, some-lane-up}
-use Rattle.store.specs.Places.{nodeField, keyField, levelField, header, nodesInUseField}
+use Rattle.store.specs.Places.{nodeField, keyField, levelField, inUse}
 use Rattle.store.specs.SaidProfile.{saidNode, saidNodesFrom, saidNodes}
 
 module _ (nodes : List ℕ) where
-  pub said-nodes-length : length (saidNodes nodes) ≡ nodeField nodes header nodesInUseField
+  pub said-nodes-length : length (saidNodes nodes) ≡ inUse nodes
   unfolding saidNodes
-  said-nodes-length = made-length (saidNode nodes) (saidNodesFrom nodes) (λ i. refl) (λ i m. refl) 1 (nodeField nodes header nodesInUseField)
+  said-nodes-length = made-length (saidNode nodes) (saidNodesFrom nodes) (λ i. refl) (λ i m. refl) 1 (inUse nodes)
 
   -- the node of place j + 1, with those of the places after it
-  pub said-here : (j : ℕ) → j < nodeField nodes header nodesInUseField
+  pub said-here : (j : ℕ) → j < inUse nodes
       → drop j (saidNodes nodes) ≡ saidNode nodes (suc j) ∷ drop (suc j) (saidNodes nodes)
   unfolding saidNodes
   said-here j h =
       let next : 1 + j ≡ suc j = omega arith in
-      rw next at (made-here (saidNode nodes) (saidNodesFrom nodes) (λ i. refl) (λ i m. refl) 1 (nodeField nodes header nodesInUseField) j h)
+      rw next at (made-here (saidNode nodes) (saidNodesFrom nodes) (λ i. refl) (λ i m. refl) 1 (inUse nodes) j h)
 
   -- the nodes from place j + 1 on
-  pub said-from : (j : ℕ) → drop j (saidNodes nodes) ≡ saidNodesFrom nodes (suc j) (nodeField nodes header nodesInUseField - j)
+  pub said-from : (j : ℕ) → drop j (saidNodes nodes) ≡ saidNodesFrom nodes (suc j) (inUse nodes - j)
   unfolding saidNodes
-  said-from j = let next : 1 + j ≡ suc j = omega arith in rw next at (from 1 (nodeField nodes header nodesInUseField) j)
+  said-from j = let next : 1 + j ≡ suc j = omega arith in rw next at (from 1 (inUse nodes) j)
     where
       from : (i m j : ℕ) → drop j (saidNodesFrom nodes i m) ≡ saidNodesFrom nodes (i + j) (m - j)
       from i m zero = let here : i + 0 ≡ i = omega arith in let all : m - 0 ≡ m = omega arith in rw (here, all)
@@ -47,13 +47,13 @@ module _ (nodes : List ℕ) where
       )
 
   -- a node is said exactly when some place in use says it
-  pub in-said-nodes : (n : Node) → In n (saidNodes nodes) ↔ SomeLane (λ i. n ≡ saidNode nodes i) 1 (nodeField nodes header nodesInUseField)
+  pub in-said-nodes : (n : Node) → In n (saidNodes nodes) ↔ SomeLane (λ i. n ≡ saidNode nodes i) 1 (inUse nodes)
   unfolding saidNodes
-  in-said-nodes n = in-said-from n 1 (nodeField nodes header nodesInUseField)
+  in-said-nodes n = in-said-from n 1 (inUse nodes)
 
   -- where a node is said, the place is in use and says it, with its key and its level
   module _ (j : ℕ) {n : Node} {rest : List Node} (at : drop j (saidNodes nodes) ≡ n ∷ rest) where
-    pub said-in-use : suc j ≤ nodeField nodes header nodesInUseField
+    pub said-in-use : suc j ≤ inUse nodes
     said-in-use = omega (arith, place-within j (saidNodes nodes) at, said-nodes-length)
 
     pub said-at : saidNode nodes (suc j) ≡ n

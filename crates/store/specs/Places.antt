@@ -32,6 +32,10 @@ lowClosedField = 4
 abbrev pub highClosedField : ℕ
 highClosedField = 5
 
+-- the first of the two words of zero
+abbrev pub reserveField : ℕ
+reserveField = 6
+
 -- a node place: key, level, from word 2 the next node's place in lanes 0 to 7 (0 for none), from word 10 ten fences
 abbrev pub keyField : ℕ
 keyField = 0
@@ -57,3 +61,7 @@ laneCountField = 1
 
 abbrev pub marksInUseField : ℕ
 marksInUseField = 10
+
+-- how many nodes the header counts
+abbrev pub inUse : List ℕ → ℕ
+inUse nodes = nodeField nodes header nodesInUseField

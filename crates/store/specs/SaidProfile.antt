@@ -9,7 +9,7 @@ use Rattle.rules.specs.NodesLanesEdges.{Node, nodeOf}
 use Rattle.rules.specs.Profile.{Profile, profileOf}
 use Rattle.store.specs.Sizes.{bandPlaces}
 use Rattle.store.specs.Memory.{Memory}
-use Rattle.store.specs.Places.{bandField, liveField, scopeField, lowField, highField, lowClosedField, highClosedField, nodeField, keyField, levelField, header, nodesInUseField}
+use Rattle.store.specs.Places.{bandField, liveField, scopeField, lowField, highField, lowClosedField, highClosedField, nodeField, keyField, levelField, inUse}
 
 -- the band that the place of number b says
 unfoldable pub saidBand : List ℕ → ℕ → Band
@@ -41,7 +41,11 @@ saidNodesFrom words i zero = []
 saidNodesFrom words i (suc m) = saidNode words i ∷ saidNodesFrom words (suc i) m
 
 unfoldable pub saidNodes : List ℕ → List Node
-saidNodes words = saidNodesFrom words 1 (nodeField words header nodesInUseField)
+saidNodes words = saidNodesFrom words 1 (inUse words)
+
+-- the profile that band words and node words say
+abbrev pub saidBy : List ℕ → List ℕ → Profile
+saidBy bands nodes = profileOf (saidBands bands) (saidNodes nodes)
 
 unfoldable pub saidProfile : Memory → Profile
-saidProfile m = profileOf (saidBands (m .bands)) (saidNodes (m .nodes))
+saidProfile m = saidBy (m .bands) (m .nodes)

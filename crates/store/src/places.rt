@@ -4,7 +4,9 @@ ghost use Prim.Native.Nat.{_<_, _^_};
 ghost use lib.ListN.{getD};
 ghost use Rattle.store.specs.Places.{bandField, nodeField};
 
-const BAND_PLACE_WORDS: usize = 8;
+pub const BAND_PLACES: usize = 1024;
+
+pub const BAND_PLACE_WORDS: usize = 8;
 
 pub const NODE_PLACE_WORDS: usize = 20;
 
@@ -21,6 +23,9 @@ pub const LOW_CLOSED: usize = 4;
 
 pub const HIGH_CLOSED: usize = 5;
 
+// The first of the two words of zero past them.
+pub const RESERVE: usize = 6;
+
 // A node place: key, level, a link for each lane, and the fences between which the marks of each slot stand.
 pub const KEY: usize = 0;
 
@@ -29,6 +34,9 @@ pub const LEVEL: usize = 1;
 pub const LINKS: usize = 2;
 
 pub const FENCES: usize = 10;
+
+// The node's own slot, and one for each lane.
+pub const SLOTS_PER_NODE: usize = 9;
 
 // The header's place, and what stands there beside its links.
 pub const HEADER: usize = 0;

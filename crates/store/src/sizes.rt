@@ -6,9 +6,9 @@ use crate::places::NODE_PLACE_WORDS;
 
 const BAND_WORDS: usize = 8192;
 
-const MOST_NODES: usize = 2048;
+pub const MOST_NODES: usize = 2048;
 
-const MOST_MARKS: usize = 16384;
+pub const MOST_MARKS: usize = 16384;
 
 // Whether the slices have lengths that make a room. Tests are joined by `&`, which does not branch.
 pub fn sizes_right(bands: &[u32], nodes: &[u32], marks: &[u32]) -> bool

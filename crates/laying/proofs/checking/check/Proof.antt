@@ -6,11 +6,11 @@ use lib.ListN.{length}
 use Rattle.rules.specs.Room.{mostNodes, mostMarks}
 use Rattle.rules.proofs.Connectives.{both}
 use Rattle.rules.proofs.Means.{and-both}
-use Rattle.laying.specs.NodePlaces.{inUse}
 use Rattle.laying.specs.Tested.{tested}
 use Rattle.laying.proofs.TestsInOrder.{passed, decided, left-to-next, within-most}
 use Rattle.laying.proofs.checking.check.Statement.{statement}
 use Rattle.laying.proofs.checking.check.Tie as tie
+use Rattle.store.specs.Places.{inUse}
 
 sizes-right-requires : tie.Need-sizes-right-requires
 sizes-right-requires c κs = search needs

@@ -7,12 +7,12 @@ use native.Mathlib.Omega.{arith}
 use borrow.Author.Needs.{needs}
 use borrow.Author.Tests.{not-true, not-false}
 use lib.ListN.{length}
-use Rattle.laying.specs.NodePlaces.{inUse}
 use Rattle.laying.specs.Links.{placeLinksRight, linksRight}
 use Rattle.laying.proofs.NextPlaces.{node-lanes}
 use Rattle.laying.proofs.LinkSteps.{Ahead, none-ahead, ahead-before, links-by-ahead, linksUpTo, all-links, links-stopped, links-onward, links-at-header}
 use Rattle.laying.proofs.links.links_right_with.Statement.{statement}
 use Rattle.laying.proofs.links.links_right_with.Tie as tie
+use Rattle.store.specs.Places.{inUse}
 
 abbrev Inv-loop : tie.InvT-loop
 Inv-loop nodes ahead₀ place₀ ahead place =

@@ -7,10 +7,10 @@ use borrow.Author.Needs.{needs}
 use borrow.Author.Tests.{not-true, not-false}
 use Rattle.rules.specs.Lists.{allFrom}
 use Rattle.rules.proofs.Lists.{all-stopped, all-onward, all-done}
-use Rattle.laying.specs.NodePlaces.{inUse}
 use Rattle.laying.specs.MarkPlaces.{fencesAt}
 use Rattle.laying.proofs.mark_places.fences_right.Statement.{statement}
 use Rattle.laying.proofs.mark_places.fences_right.Tie as tie
+use Rattle.store.specs.Places.{inUse}
 
 abbrev Inv-loop : tie.InvT-loop
 Inv-loop nodes starts in-use place₀ place =
