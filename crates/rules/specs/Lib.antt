@@ -10,7 +10,7 @@
 --   "The bench profile"                    BenchProfile, BenchRow, BenchTable
 --   "Errors that look right"               BenchTable
 -- Connectives and Lists have the plain tests that they are worded with. Staircase is not the paper's: it has one band's marks slot by slot,
--- and the walk by which code is to find them. What the paper says of words in memory (places, which of them are
+-- and the walk by which code finds them. What the paper says of words in memory (places, which of them are
 -- free, the likeness of two memories) is not here: these rules know no memory.
 -- A definition marked `unfoldable` stays shut until a proof opens it by name, and `Computes` opens them all; an `abbrev` is always open.
 -- "Assumes nothing" at the head of a file says that it uses no axiom, and no hypothesis but those that each statement writes out.
