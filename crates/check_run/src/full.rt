@@ -20,6 +20,9 @@ const MARKS_PER_BAND: usize = 3;
 
 const KEYS_PER_MACHINE: usize = 32768;
 
+// How far apart the 32 nodes of a machine stand: the last of them then stands at the machine's last key.
+const KEYS_APART: usize = 1057;
+
 // Where the nodes stand: at the first keys of machine 0, or at 32 keys of each machine, its first and last among them.
 pub enum Keys {
     OneMachine,
@@ -51,7 +54,7 @@ fn key_of(keys: Keys, index: usize) -> usize
 {
     match keys {
         Keys::OneMachine => index,
-        Keys::AllMachines => index / 32 * KEYS_PER_MACHINE + index % 32 * 1057,
+        Keys::AllMachines => index / 32 * KEYS_PER_MACHINE + index % 32 * KEYS_APART,
     }
 }
 

@@ -1,5 +1,5 @@
-// Runs the check on sound memories of several sizes, and on each of them with single words spoiled, and prints what it said. No memory is made
-// by the code that is tried: all words come from tables or from formulas here.
+// Runs the check on sound memories of several sizes, on each of them with single words spoiled, and on each with a slice a word shorter or longer,
+// and prints what it said. No memory is made by the code that is tried: all words come from tables or from formulas here.
 mod full;
 mod layout;
 mod memories;
@@ -29,7 +29,7 @@ fn main() {
         3072,
         FAR_APART,
     );
-    // The last band's scope, one more, is the house's: such memory is sound, so the check says yes to one spoiled band word.
+    // In these two the last band's scope, one more, is the house's: such memory is sound, so the check says yes to one spoiled band word.
     memories::try_in(
         b"full, all machines, levels by trailing zeros",
         Memory::Full(Keys::AllMachines, Levels::TrailingZeros),

@@ -20,9 +20,9 @@ const EXAMPLE_400: [u32; 20] = [400, 2, 0, 0, 0, 0, 0, 0, 0, 0, 2, 2, 2, 2, 2, 2
 const EXAMPLE_MARKS: [u32; 2] = [1, 1];
 
 // How many band places and node places the bench profile reaches into, place 0 among them.
-const BENCH_BANDS: usize = 6;
+const BENCH_BAND_PLACES: usize = 6;
 
-const BENCH_NODES: usize = 7;
+const BENCH_NODE_PLACES: usize = 7;
 
 const BENCH_MARKS: [u32; 19] = [1, 5, 1, 5, 1, 3, 5, 1, 3, 5, 4, 1, 3, 5, 1, 5, 1, 2, 2];
 
@@ -88,7 +88,7 @@ fn bench_fences(place: usize) -> [u32; 10]
 
 fn lay_bench_bands(bands: &mut [u32]) {
     let mut number = 0;
-    while number < BENCH_BANDS {
+    while number < BENCH_BAND_PLACES {
         let band = bench_band(number);
         words::copy(&band, bands, number * BAND_PLACE_WORDS);
         number += 1;
@@ -97,7 +97,7 @@ fn lay_bench_bands(bands: &mut [u32]) {
 
 fn lay_bench_nodes(nodes: &mut [u32]) {
     let mut place = 0;
-    while place < BENCH_NODES {
+    while place < BENCH_NODE_PLACES {
         let first = place * NODE_PLACE_WORDS;
         let links = bench_links(place);
         words::copy(&links, nodes, first);

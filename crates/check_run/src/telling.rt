@@ -43,11 +43,11 @@ pub(crate) fn tell_answer(asked: &[u8], said: bool) {
 pub(crate) fn tell_tally(slice: &[u8], tally: Tally) {
     tell(b"  ");
     tell(slice);
-    tell(b": words ");
+    tell(b": ");
     tell_number(tally.words);
-    tell(b", times spoiled ");
+    tell(b" words spoiled, ");
     tell_number(std::num::wrapping_add_u64(tally.no, tally.yes));
-    tell(b", no ");
+    tell(b" times: no ");
     tell_number(tally.no);
     tell(b", yes ");
     tell_number(tally.yes);

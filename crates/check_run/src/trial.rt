@@ -1,4 +1,4 @@
-// One memory, whole, spoiled and cut: what the check says of it.
+// One memory, whole, with words spoiled, and with slices a word too short or too long: what the check says of it.
 ghost use mathlib.Core.Path.{_≡_};
 ghost use Prim.Native.Nat.{_≤_};
 ghost use lib.ListN.{length};
@@ -16,10 +16,10 @@ pub const NODES_LENT: usize = 40981;
 
 pub const MARKS_LENT: usize = 16385;
 
-// The words of the first eight band places, and the first word of the last.
-const FIRST_BANDS: usize = 64;
+// How many words the first eight band places have, and where the last begins.
+const FIRST_BAND_WORDS: usize = 64;
 
-const LAST_BAND: usize = 8184;
+const LAST_BAND_PLACE: usize = 8184;
 
 // What the check says of the first words of each slice.
 fn ask(
@@ -49,7 +49,7 @@ fn tell_spoiled_bands(bands: &mut [u32], nodes: &mut [u32], marks: &mut [u32]) {
     let first = spoiling::spoil(
         Slice::Bands,
         0,
-        FIRST_BANDS,
+        FIRST_BAND_WORDS,
         1,
         Tally::new(),
         bands,
@@ -58,7 +58,7 @@ fn tell_spoiled_bands(bands: &mut [u32], nodes: &mut [u32], marks: &mut [u32]) {
     );
     let both = spoiling::spoil(
         Slice::Bands,
-        LAST_BAND,
+        LAST_BAND_PLACE,
         bands.len(),
         1,
         first,
@@ -114,7 +114,13 @@ fn tell_spoiled(apart: usize, bands: &mut [u32], nodes: &mut [u32], marks: &mut 
 
 // Asks with each slice a word shorter and a word longer. Of marks each length up to 16,384 makes a room, so there a word that is not in use may
 // go, and a free word may come.
-fn tell_cut(bands: &[u32], nodes: &[u32], marks: &[u32], node_words: usize, mark_words: usize)
+fn tell_lengths_off_by_one(
+    bands: &[u32],
+    nodes: &[u32],
+    marks: &[u32],
+    node_words: usize,
+    mark_words: usize,
+)
     requires { ⌜
         (1 ≤ «node_words»)
         × («node_words» ≤ 40980)
@@ -172,7 +178,7 @@ pub(crate) fn try_memory(
         &mut nodes[zero..node_words],
         &mut marks[zero..mark_room],
     );
-    tell_cut(bands, nodes, marks, node_words, mark_room);
+    tell_lengths_off_by_one(bands, nodes, marks, node_words, mark_room);
     let after = ask(bands, nodes, marks, BAND_WORDS, node_words, mark_room);
     telling::tell_answer(b"as it was", after);
 }
