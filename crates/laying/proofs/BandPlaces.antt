@@ -18,7 +18,7 @@ use Rattle.rules.proofs.Lists.{Each, all-from-means}
 use Rattle.rules.proofs.Sums.{at-most-one}
 use Rattle.rules.proofs.BoxSaysNo.{BandRight, band-fault-zero}
 use Rattle.store.specs.Sizes.{bandPlaceWords, bandPlaces}
-use Rattle.store.specs.Places.{bandField, liveField, lowClosedField, highClosedField}
+use Rattle.store.specs.Places.{bandField, liveField, lowClosedField, highClosedField, reserveField}
 use Rattle.store.specs.SaidProfile.{saidBand, saidBands}
 use Rattle.store.specs.LaidBands.{laidBandField, laidBands}
 use Rattle.store.proofs.SaidBands.{saysLive, band-by-place, in-said-bands}
@@ -53,21 +53,21 @@ module _ (bands : List ℕ) (b : ℕ) where
   free-means = fields-free-mean 0 (b * bandPlaceWords) (omega arith)
 
   -- the two words after the band's own
-  reserve-means : Means (zerosBetween (b * bandPlaceWords + 6) (b * bandPlaceWords + bandPlaceWords) bands)
-      ((bandField bands b 6 ≡ 0) × (bandField bands b 7 ≡ 0))
+  reserve-means : Means (zerosBetween (b * bandPlaceWords + reserveField) (b * bandPlaceWords + bandPlaceWords) bands)
+      ((bandField bands b reserveField ≡ 0) × (bandField bands b (suc reserveField) ≡ 0))
   reserve-means =
-      reworded (fields-free-mean 6 (b * bandPlaceWords + 6) refl)
-      (λ h. (h 6 (omega arith) (omega arith), h 7 (omega arith) (omega arith)))
+      reworded (fields-free-mean reserveField (b * bandPlaceWords + reserveField) refl)
+      (λ h. (h reserveField (omega arith) (omega arith), h (suc reserveField) (omega arith) (omega arith)))
       (λ z f a l.
       let free : (g : ℕ) → g ≡ f → bandField bands b g ≡ 0 → bandField bands b f ≡ 0 = λ g e. subst (λ i. bandField bands b i ≡ 0) e in
-      ⊎-elim (λ e. free 6 e (z .0)) (λ k. free 7 (omega arith) (z .1)) (eq-or-lt-of-le a))
+      ⊎-elim (λ e. free reserveField e (z .0)) (λ k. free (suc reserveField) (omega arith) (z .1)) (eq-or-lt-of-le a))
 
   -- the place has a right band
   record LivePlace : Type 0 where
     live-one : bandField bands b liveField ≡ 1
     low-told : bandField bands b lowClosedField ≤ 1
     high-told : bandField bands b highClosedField ≤ 1
-    reserve-free : (bandField bands b 6 ≡ 0) × (bandField bands b 7 ≡ 0)
+    reserve-free : (bandField bands b reserveField ≡ 0) × (bandField bands b (suc reserveField) ≡ 0)
     band-right : BandRight (saidBand bands b)
 
   live-means : Means (bandPlaceLive bands b) LivePlace
@@ -108,7 +108,7 @@ module _ (bands : List ℕ) (b : ℕ) where
         live-one = words liveField (omega arith);
         low-told = omega (arith, words lowClosedField (omega arith), at-most-one (saidBand bands b .lowClosed));
         high-told = omega (arith, words highClosedField (omega arith), at-most-one (saidBand bands b .highClosed));
-        reserve-free = (words 6 (omega arith), words 7 (omega arith));
+        reserve-free = (words reserveField (omega arith), words (suc reserveField) (omega arith));
         band-right = right;
       }
 

@@ -14,18 +14,13 @@ use Rattle.rules.specs.Connectives.{_and_, _or_, saysYes}
 use Rattle.rules.specs.Lists.{all, allFrom, member}
 use Rattle.rules.specs.HallLine.{Band}
 use Rattle.rules.proofs.Connectives.{both}
-use Rattle.rules.proofs.Means.{itself, or-right, same-means}
+use Rattle.rules.proofs.Means.{and-true, itself, or-right, same-means}
 use Rattle.rules.proofs.Lists.{all-append, all-from-means}
 use Rattle.store.specs.Sizes.{bandPlaces}
 use Rattle.store.specs.Places.{bandField, liveField, inUse}
 use Rattle.store.specs.SaidProfile.{saidBand}
 use Rattle.search.specs.PlaceOf.{placeOf}
-use Rattle.laying.specs.Ends.{endPlacesOf, endPlacesFrom, endPlaces, endsMatch, noted}
-
-and-true : (t : Bool) → t and true ≡ t
-unfolding _and_
-and-true true = refl
-and-true false = refl
+use Rattle.laying.specs.Ends.{endPlacesOf, endPlacesFrom, endPlaces, endsMatch, noted, allNoted}
 
 noted-append : (words is js : List ℕ) → noted words (is ++ js) ≡ noted (noted words is) js
 noted-append words [] js = refl
@@ -35,7 +30,7 @@ noted-append words (i ∷ is) js = noted-append (set words i 1) is js
 
 module _ (bands nodes words : List ℕ) (b : ℕ) where
   -- what noting the ends of number b comes to: whether all have a place, and the words then
-  abbrev pub EndsNoted : Bool → List ℕ → Type 0
+  abbrev EndsNoted : Bool → List ℕ → Type 0
   EndsNoted right found = (right ≡ all saysYes (endPlacesOf bands nodes b)) × (found ≡ noted words (endPlacesOf bands nodes b))
 
   -- nothing is noted of a number that is not live ..
@@ -63,8 +58,8 @@ module _ (bands nodes words : List ℕ) (b : ℕ) where
 
 -- when the numbers before b are done: what is left to note leaves what is to be noted in all, and what is left to test decides as all does
 pub record Noting (bands nodes old words : List ℕ) (right : Bool) (b : ℕ) : Type 0 where
-  pub notes : noted words (endPlacesFrom bands nodes b (bandPlaces - b)) ≡ noted old (endPlaces bands nodes)
-  pub decides : right and all saysYes (endPlacesFrom bands nodes b (bandPlaces - b)) ≡ all saysYes (endPlaces bands nodes)
+  notes : noted words (endPlacesFrom bands nodes b (bandPlaces - b)) ≡ noted old (endPlaces bands nodes)
+  decides : right and all saysYes (endPlacesFrom bands nodes b (bandPlaces - b)) ≡ all saysYes (endPlaces bands nodes)
 
 module _ (bands nodes old : List ℕ) where
   pub noting-begins : Noting bands nodes old old true 0
@@ -113,8 +108,8 @@ found-at words (j ∷ is) i l = found-at (set words j 1) is i (rw (length-set wo
     go false e = rw (getD-set-other words j i 1 0 (eqb-false i j e))
 
 -- with nothing noted before, each of the first places is noted exactly when it is among them
-all-found : (n m : ℕ) (is : List ℕ) → m < n → allFrom (λ i. saysYes (getD (noted (replicate n 0) is) i 0)) 1 m ≡ allFrom (λ i. member i is) 1 m
-unfolding _or_
+all-found : (n m : ℕ) (is : List ℕ) → m < n → allNoted (noted (replicate n 0) is) m ≡ allFrom (λ i. member i is) 1 m
+unfolding allNoted _or_
 all-found n m is l =
     same-means
     (all-from-means 1 m (λ i a b. rw (found i (omega arith)) (itself (member i is))))
@@ -136,7 +131,7 @@ pub matched-by-notes : (bands nodes : List ℕ) {old found : List ℕ} {placed a
     → inUse nodes < length old
     → in-use ≡ inUse nodes
     → (placed ≡ all saysYes (endPlaces bands nodes)) × (found ≡ noted old (endPlaces bands nodes))
-    → all-noted ≡ allFrom (λ i. saysYes (getD found i 0)) 1 in-use
+    → all-noted ≡ allNoted found in-use
     → placed && all-noted ≡ endsMatch bands nodes
 unfolding endsMatch
 matched-by-notes bands nodes {old} z h u p a =

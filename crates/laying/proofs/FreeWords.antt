@@ -35,7 +35,7 @@ module _ (from to : ℕ) (words : List ℕ) where
   zeros-done h = rw (none-between from to words h)
 
 -- each word from one index up to another is 0
-abbrev pub AllZero : ℕ → ℕ → List ℕ → Type 0
+abbrev AllZero : ℕ → ℕ → List ℕ → Type 0
 AllZero from to words = (q : ℕ) → from ≤ q → q < to → getD words q 0 ≡ 0
 
 -- words past the end read as 0, so that the test means the same with and without them

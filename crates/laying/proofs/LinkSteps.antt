@@ -9,7 +9,7 @@ use mathlib.Core.List.{List, [], _∷_, _++_, append-nil}
 use native.Mathlib.Numerals.{add-one}
 use native.Mathlib.Omega.{arith}
 use borrow.Author.Tests.{lt-ltb, le-ltb}
-use lib.Dec.{ltb, eqb}
+use lib.Dec.{ltb}
 use lib.ListN.{length, getD, set, take, drop, replicate, length-replicate, getD-replicate, take-append-drop, drop-of-length-le}
 use lib.Seq.{take-suc-set, drop-set-lt, drop-cons, append-snoc, take-all}
 use Rattle.rules.specs.Connectives.{_and_}
@@ -18,8 +18,8 @@ use Rattle.rules.specs.NodesLanesEdges.{lanes}
 use Rattle.rules.proofs.Lists.{all-from-same, all-from-last}
 use Rattle.rules.proofs.Connectives.{both}
 use Rattle.rules.proofs.Means.{false-and, and-true, and-means, and-fails, lt-means, lt-fails}
-use Rattle.store.specs.Places.{nodeField, header, levelField, linkField, inUse}
-use Rattle.laying.specs.Links.{nextFrom, linkedLanes, linkRight, placeLinksRight, linksRight, linkDue, raisedFrom, raised}
+use Rattle.store.specs.Places.{nodeField, header, levelField, inUse}
+use Rattle.laying.specs.Links.{nextFrom, linkedLanes, linkDue, linkDueAt, linkRight, placeLinksRight, linksRight, linkByAhead, linksDue, raisedFrom, raised}
 use Rattle.laying.proofs.NextPlaces.{next-here-or-on, no-next-past}
 
 -- ---- a place raised
@@ -83,10 +83,10 @@ module _ (place level : ℕ) where
 -- ---- the link due in a lane
 
 module _ (level : ℕ) (ahead : List ℕ) (lane : ℕ) where
-  pub link-due : lane < level → getD ahead lane 0 ≡ linkDue level ahead lane
+  pub link-due : lane < level → getD ahead lane 0 ≡ linkDue level lane (getD ahead lane 0)
   link-due h = rw (lt-ltb lane level h)
 
-  pub no-link-due : level ≤ lane → 0 ≡ linkDue level ahead lane
+  pub no-link-due : level ≤ lane → 0 ≡ linkDue level lane (getD ahead lane 0)
   no-link-due h = rw (le-ltb lane level h)
 
 -- ---- the first places ahead of a place
@@ -121,16 +121,12 @@ module _ (nodes : List ℕ) where
 
   -- ---- the links of a place
 
-  -- the link of a place in a lane is the one due
-  abbrev pub dueRight : ℕ → ℕ → List ℕ → ℕ → Bool
-  dueRight place level ahead lane = eqb (nodeField nodes place (linkField lane)) (linkDue level ahead lane)
-
   -- the links of a place are right exactly when they are due by the first places ahead
   pub links-by-ahead : (place level : ℕ) (ahead : List ℕ) → level ≡ linkedLanes nodes place → Ahead nodes place ahead
-      → allFrom (dueRight place level ahead) 0 lanes ≡ placeLinksRight nodes place
-  unfolding placeLinksRight linkRight
+      → linksDue nodes place level ahead ≡ placeLinksRight nodes place
+  unfolding linksDue placeLinksRight linkRight linkDueAt
   links-by-ahead place level ahead e a =
-      all-from-same {f = dueRight place level ahead} {g = linkRight nodes place} 0 lanes
+      all-from-same {f = linkByAhead nodes place level ahead} {g = linkRight nodes place} 0 lanes
       (λ lane _ l. rw (e, a .first lane (omega arith), add-one))
 
   -- the links of the places up to a place
@@ -156,7 +152,7 @@ module _ (nodes : List ℕ) where
       up-to-last place ∙ ap (λ t. passed and t) e ∙ and-true passed ∙ ap (allFrom (placeLinksRight nodes) 0) less
 
   pub links-at-header : (place : ℕ) (ahead : List ℕ) → place ≤ 0 → Ahead nodes place ahead
-      → allFrom (dueRight header lanes ahead) 0 lanes ≡ linksUpTo place
+      → linksDue nodes header lanes ahead ≡ linksUpTo place
   unfolding linksUpTo linkedLanes
   links-at-header place ahead h a =
       let e : place ≡ 0 = omega arith in

@@ -6,7 +6,6 @@ use mathlib.Core.Bool.{cond}
 use mathlib.Core.List.{List, _∷_}
 use native.Mathlib.Omega.{arith}
 use borrow.Author.Tests.{lt-ltb}
-use lib.Dec.{ltb}
 use lib.ListN.{drop}
 use Rattle.rules.specs.NodesLanesEdges.{Node, lanes, takesPart}
 use Rattle.rules.proofs.Lists.{all-from-means, rest-follows}
@@ -14,8 +13,8 @@ use Rattle.rules.proofs.Means.{Means, reworded, eq-means}
 use Rattle.store.specs.Places.{nodeField, linkField, header, inUse}
 use Rattle.store.specs.SaidProfile.{saidNode, saidNodes}
 use Rattle.store.specs.LaidNodes.{nextPlace}
-use Rattle.store.proofs.SaidNodes.{said-here, said-in-use}
-use Rattle.laying.specs.Links.{nextFrom, linkedLanes, linkRight, placeLinksRight, linksRight}
+use Rattle.store.proofs.SaidNodes.{said-here, said-in-use, said-at}
+use Rattle.laying.specs.Links.{linkedLanes, linkDueAt, linkRight, placeLinksRight, linksRight}
 use Rattle.laying.proofs.NextPlaces.{node-lanes, next-among-said}
 
 -- the links of the header and of each node, as a profile of the nodes that the words say has them
@@ -25,31 +24,26 @@ pub record LinksLaid (nodes : List ℕ) : Type 0 where
       → nodeField nodes (suc j) (linkField i) ≡ cond (takesPart i n) (nextPlace i (suc (suc j)) rest) 0
 
 module _ (nodes : List ℕ) where
-  -- the link that is due at a place in a lane
-  unfoldable due : ℕ → ℕ → ℕ
-  due i lane = cond (ltb lane (linkedLanes nodes i)) (nextFrom nodes lane (suc i)) 0
-
   -- the links of a place are those that are due
   abbrev Due : ℕ → Type 0
-  Due i = (lane : ℕ) → lane < lanes → nodeField nodes i (linkField lane) ≡ due i lane
+  Due i = (lane : ℕ) → lane < lanes → nodeField nodes i (linkField lane) ≡ linkDueAt nodes i lane
 
   place-links-mean : (i : ℕ) → Means (placeLinksRight nodes i) (Due i)
-  unfolding placeLinksRight linkRight due
+  unfolding placeLinksRight linkRight
   place-links-mean i =
-      reworded (all-from-means 0 lanes (λ lane a b. eq-means (nodeField nodes i (linkField lane)) (due i lane)))
+      reworded (all-from-means 0 lanes (λ lane a b. eq-means (nodeField nodes i (linkField lane)) (linkDueAt nodes i lane)))
       (λ h lane b. h lane (omega arith) (omega arith))
       (λ h lane a b. h lane (omega arith))
 
-  due-first : (lane : ℕ) → lane < lanes → due header lane ≡ nextPlace lane 1 (saidNodes nodes)
-  unfolding due linkedLanes
+  due-first : (lane : ℕ) → lane < lanes → linkDueAt nodes header lane ≡ nextPlace lane 1 (saidNodes nodes)
+  unfolding linkDueAt linkedLanes
   due-first lane h = rw (lt-ltb lane lanes h, next-among-said nodes lane 0)
 
   due-at : (j : ℕ) {n : Node} {rest : List Node} → drop j (saidNodes nodes) ≡ n ∷ rest → (lane : ℕ)
-      → due (suc j) lane ≡ cond (takesPart lane n) (nextPlace lane (suc (suc j)) rest) 0
-  unfolding due takesPart saidNode
-  due-at j {n} {rest} at lane =
-      let here : saidNode nodes (suc j) ≡ n = cc (said-here nodes j (said-in-use nodes j at)) in
-      rw (← here, node-lanes nodes (suc j) (omega arith), next-among-said nodes lane (suc j), rest-follows j (saidNodes nodes) at)
+      → linkDueAt nodes (suc j) lane ≡ cond (takesPart lane n) (nextPlace lane (suc (suc j)) rest) 0
+  unfolding linkDueAt takesPart saidNode
+  due-at j at lane =
+      rw (← said-at nodes j at, node-lanes nodes (suc j) (omega arith), next-among-said nodes lane (suc j), rest-follows j (saidNodes nodes) at)
 
   pub links-mean : Means (linksRight nodes) (LinksLaid nodes)
   unfolding linksRight

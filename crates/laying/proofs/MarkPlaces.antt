@@ -44,7 +44,7 @@ module _ (bands nodes marks : List ℕ) (linked : Linked nodes) (stands : Standi
   asked = staircases bands nodes
 
   -- they are as many as the profile's marks
-  in-use-means : Means (marksInUseRight nodes marks asked)
+  in-use-means : Means (marksInUseRight nodes (length marks) (length asked))
       ((marksInUse (saidBy bands nodes) ≤ length marks) × (nodeField nodes header marksInUseField ≡ marksInUse (saidBy bands nodes)))
   unfolding marksInUseRight
   in-use-means =

@@ -2,14 +2,12 @@
 -- Assumes nothing.
 use Prim.Native.Nat.{ℕ, zero, suc, _+_, _-_, _*_, _/_, _≤_, _<_}
 use mathlib.Core.Path.{_≡_, refl, subst}
-use mathlib.Core.Bool.{false}
 use mathlib.Core.Logic.{⊎-elim, inl, inr}
 use mathlib.Core.List.{List}
 use native.Mathlib.Omega.{arith}
-use borrow.Author.Tests.{lt-ltb, le-ltb}
 use lib.Dec.{leb, ltb}
 use lib.ListN.{length, getD, List·getD-eq-default}
-use Rattle.rules.specs.Connectives.{_and_, _or_}
+use Rattle.rules.specs.Connectives.{_or_}
 use Rattle.rules.specs.Lists.{allFrom}
 use Rattle.rules.specs.NodesLanesEdges.{lanes}
 use Rattle.rules.specs.Staircase.{slotsPerNode}
@@ -19,7 +17,7 @@ use Rattle.rules.proofs.NodesLanesEdges.{Asc, Level, is-level-means}
 use Rattle.store.specs.Sizes.{nodePlaceWords}
 use Rattle.store.specs.Places.{nodeField, keyField, header, laneCountField, marksInUseField, fenceField, inUse}
 use Rattle.store.specs.SaidProfile.{saidNode, saidNodesFrom, saidNodes}
-use Rattle.laying.specs.NodePlaces.{nodesFit, headerRight, nodeRight, restFree, nodePlacesRight}
+use Rattle.laying.specs.NodePlaces.{nodesFit, headerRight, nodeRight, nodesRight, restFree, nodePlacesRight}
 use Rattle.laying.proofs.FreeWords.{zeros-mean}
 
 pub record NodesStand (nodes : List ℕ) : Type 0 where
@@ -70,8 +68,8 @@ module _ (nodes : List ℕ) where
           (reworded (or-means (le-means (suc i) 1) (lt-means (nodeField nodes i keyField) k))
           (⊎-elim (λ l. absurd (omega arith)) (λ l. l)) inr)
 
-  nodes-mean : Means (allFrom (nodeRight nodes) 1 (inUse nodes)) (Asc 0 (saidNodes nodes) × Each (λ n. Level (n .level)) (saidNodes nodes))
-  unfolding saidNodes
+  nodes-mean : Means (nodesRight nodes) (Asc 0 (saidNodes nodes) × Each (λ n. Level (n .level)) (saidNodes nodes))
+  unfolding nodesRight saidNodes
   nodes-mean =
       from-means 1 0 (omega arith)
       (λ k. reworded (or-means (le-means 1 1) (lt-means (nodeField nodes 0 keyField) k)) (λ e. omega arith) (λ l. inl (omega arith)))
@@ -97,13 +95,3 @@ module _ (nodes : List ℕ) where
         rest-free = f .1 .1 .1;
       })
       (λ s. (s .fits, ((s .lane-count, s .spare), ((s .ascend, s .levels), s .rest-free))))
-
-  -- as the code goes about it: without places for the nodes in use the test fails, and with them the other tests are left
-  pub short-of-places : length nodes / nodePlaceWords ≤ inUse nodes → nodePlacesRight nodes ≡ false
-  unfolding nodePlacesRight nodesFit _and_
-  short-of-places h = rw (le-ltb (inUse nodes) (length nodes / nodePlaceWords) h)
-
-  pub with-places : inUse nodes < length nodes / nodePlaceWords
-      → nodePlacesRight nodes ≡ headerRight nodes and allFrom (nodeRight nodes) 1 (inUse nodes) and restFree nodes
-  unfolding nodePlacesRight nodesFit _and_
-  with-places h = rw (lt-ltb (inUse nodes) (length nodes / nodePlaceWords) h)

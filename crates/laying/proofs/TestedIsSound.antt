@@ -34,15 +34,15 @@ use Rattle.laying.proofs.NodesLaid.{nodes-laid, laid-stand, laid-links,
 
 -- ---- what the tests mean together
 
-pub record Tested (bands nodes marks : List ℕ) : Type 0 where
-  pub sizes : sizesRight (lengthsIn (lent bands nodes marks)) ≡ true
-  pub bands-right : Each BandRight (saidBands bands)
-  pub bands-laid : bands ≡ laidBands (saidBands bands)
-  pub nodes-stand : NodesStand nodes
-  pub ends-stand : Each (λ b. NodeAt (b .low) (saidNodes nodes) × NodeAt (b .high) (saidNodes nodes)) (saidBands bands)
-  pub only-ends-stand : Each (λ n. Some (EndOf (n .key)) (saidBands bands)) (saidNodes nodes)
-  pub links-laid : LinksLaid nodes
-  pub marks-laid : MarksLaid bands nodes marks
+record Tested (bands nodes marks : List ℕ) : Type 0 where
+  sizes : sizesRight (lengthsIn (lent bands nodes marks)) ≡ true
+  bands-right : Each BandRight (saidBands bands)
+  bands-laid : bands ≡ laidBands (saidBands bands)
+  nodes-stand : NodesStand nodes
+  ends-stand : Each (λ b. NodeAt (b .low) (saidNodes nodes) × NodeAt (b .high) (saidNodes nodes)) (saidBands bands)
+  only-ends-stand : Each (λ n. Some (EndOf (n .key)) (saidBands bands)) (saidNodes nodes)
+  links-laid : LinksLaid nodes
+  marks-laid : MarksLaid bands nodes marks
 
 -- node places and links right make words that the walks can follow
 linked-by : (nodes : List ℕ) → NodesStand nodes → LinksLaid nodes → Linked nodes
@@ -62,7 +62,7 @@ standing-by bands nodes b n e o =
       only-ends-stand = o;
     }
 
--- each test where those before it passed
+-- in the four steps of the check: what the tests of a step mean is known where those before it have passed
 tested-means : (bands nodes marks : List ℕ) → Means (tested (lent bands nodes marks)) (Tested bands nodes marks)
 unfolding tested
 tested-means bands nodes marks =

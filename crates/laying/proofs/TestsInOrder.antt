@@ -1,5 +1,5 @@
--- The tests of the check in the order in which the code makes them: one that fails decides, one that passes leaves it to those after it; and once
--- the sizes and the node places have passed, nodes and marks are within the most that the code has words for.
+-- Tests that the code makes one after the other, as the four steps of the check: one that fails decides, one that passes leaves it to those after
+-- it; and once the sizes and the node places have passed, nodes and marks are within the most that the code has words for.
 -- Assumes nothing.
 use Prim.Native.Nat.{ℕ, _≤_}
 use native.Mathlib.Omega.{arith}

@@ -8,7 +8,7 @@ use Rattle.rules.specs.Connectives.{_and_, _or_}
 use Rattle.rules.specs.Lists.{allFrom}
 use Rattle.rules.specs.BoxSaysNo.{bandFault}
 use Rattle.store.specs.Sizes.{bandPlaceWords, bandPlaces}
-use Rattle.store.specs.Places.{bandField, liveField, lowClosedField, highClosedField}
+use Rattle.store.specs.Places.{bandField, liveField, lowClosedField, highClosedField, reserveField}
 use Rattle.store.specs.SaidProfile.{saidBand}
 use Rattle.laying.specs.Zeros.{zerosBetween}
 
@@ -22,12 +22,13 @@ bandPlaceLive bands b =
     eqb (bandField bands b liveField) 1
     and leb (bandField bands b lowClosedField) 1
     and leb (bandField bands b highClosedField) 1
-    and zerosBetween (b * bandPlaceWords + 6) (b * bandPlaceWords + bandPlaceWords) bands
+    and zerosBetween (b * bandPlaceWords + reserveField) (b * bandPlaceWords + bandPlaceWords) bands
     and eqb (bandFault (saidBand bands b)) 0
 
+-- the place of number b is free, or has a right band
 unfoldable pub bandPlaceRight : List ℕ → ℕ → Bool
 bandPlaceRight bands b = bandPlaceFree bands b or bandPlaceLive bands b
 
--- all 1,024 places are
+-- each of the 1,024 places is free, or has a right band
 unfoldable pub bandPlacesRight : List ℕ → Bool
 bandPlacesRight bands = allFrom (bandPlaceRight bands) 0 bandPlaces

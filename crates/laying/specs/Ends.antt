@@ -3,7 +3,7 @@
 use Prim.Native.Nat.{ℕ, zero, suc}
 use mathlib.Core.Bool.{Bool}
 use mathlib.Core.List.{List, [], _∷_, _++_}
-use lib.ListN.{set}
+use lib.ListN.{getD, set}
 use Rattle.rules.specs.Connectives.{_and_, saysYes}
 use Rattle.rules.specs.Lists.{onlyIf, all, allFrom, member}
 use Rattle.rules.specs.HallLine.{Band}
@@ -12,7 +12,7 @@ use Rattle.store.specs.Places.{bandField, liveField, inUse}
 use Rattle.store.specs.SaidProfile.{saidBand}
 use Rattle.search.specs.PlaceOf.{placeOf}
 
--- the places of the ends of the band of number b, if it is live; 0 where no node stands
+-- the places of the ends of the band of number b, if it is live; 0 where none is found
 unfoldable pub endPlacesOf : List ℕ → List ℕ → ℕ → List ℕ
 endPlacesOf bands nodes b =
     let band : Band = saidBand bands b in
@@ -23,6 +23,7 @@ abbrev pub endPlacesFrom : List ℕ → List ℕ → ℕ → ℕ → List ℕ
 endPlacesFrom bands nodes b zero = []
 endPlacesFrom bands nodes b (suc m) = endPlacesOf bands nodes b ++ endPlacesFrom bands nodes (suc b) m
 
+-- those of all numbers
 unfoldable pub endPlaces : List ℕ → List ℕ → List ℕ
 endPlaces bands nodes = endPlacesFrom bands nodes 0 bandPlaces
 
@@ -36,3 +37,11 @@ endsMatch bands nodes = all saysYes (endPlaces bands nodes) and allFrom (λ i. m
 abbrev pub noted : List ℕ → List ℕ → List ℕ
 noted words [] = words
 noted words (i ∷ is) = noted (set words i 1) is
+
+-- the place is noted
+abbrev pub isNoted : List ℕ → ℕ → Bool
+isNoted words i = saysYes (getD words i 0)
+
+-- each of the first n node places is noted
+unfoldable pub allNoted : List ℕ → ℕ → Bool
+allNoted words n = allFrom (isNoted words) 1 n

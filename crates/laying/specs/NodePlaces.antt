@@ -26,9 +26,14 @@ unfoldable pub nodeRight : List ℕ → ℕ → Bool
 nodeRight nodes i =
     isLevel (nodeField nodes i levelField) and (leb i 1 or ltb (nodeField nodes (i - 1) keyField) (nodeField nodes i keyField))
 
+-- all nodes in use are right
+unfoldable pub nodesRight : List ℕ → Bool
+nodesRight nodes = allFrom (nodeRight nodes) 1 (inUse nodes)
+
 -- every place past the last in use is free
 unfoldable pub restFree : List ℕ → Bool
 restFree nodes = zerosBetween ((inUse nodes + 1) * nodePlaceWords) (length nodes) nodes
 
+-- all of these
 unfoldable pub nodePlacesRight : List ℕ → Bool
-nodePlacesRight nodes = nodesFit nodes and headerRight nodes and allFrom (nodeRight nodes) 1 (inUse nodes) and restFree nodes
+nodePlacesRight nodes = nodesFit nodes and headerRight nodes and nodesRight nodes and restFree nodes

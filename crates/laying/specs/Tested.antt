@@ -1,4 +1,5 @@
--- All tests of the check, in the order in which they are made. That together they are `sound` is proved (proofs/TestedIsSound.antt).
+-- All tests of the check, in the four steps in which they are made: sizes; band and node places; ends and links; fences and marks. A step is made
+-- only where those before it have passed. That together they are `sound` is proved (proofs/TestedIsSound.antt).
 -- Assumes nothing.
 use mathlib.Core.Bool.{Bool}
 use Rattle.rules.specs.Connectives.{_and_}
@@ -10,6 +11,7 @@ use Rattle.laying.specs.Ends.{endsMatch}
 use Rattle.laying.specs.Links.{linksRight}
 use Rattle.laying.specs.MarkPlaces.{marksRight}
 
+-- memory passes all four steps
 unfoldable pub tested : Memory → Bool
 tested m =
     sizesRight (lengthsIn m)

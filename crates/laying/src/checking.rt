@@ -1,4 +1,5 @@
-// The check of a whole profile: each test is made only where those before it have passed.
+// The check of a whole profile, in four steps: sizes; band and node places; ends and links; fences and marks. A step is made only where those
+// before it have passed.
 ghost use mathlib.Core.Path.{_≡_};
 ghost use Rattle.store.specs.Memory.{lent};
 ghost use Rattle.laying.specs.Tested.{tested};
@@ -19,8 +20,8 @@ pub fn check(bands: &[u32], nodes: &[u32], marks: &[u32]) -> bool
     if !places {
         return false;
     }
-    let joins = ends::ends_match(bands, nodes) & links::links_right(nodes);
-    if !joins {
+    let ends_and_links = ends::ends_match(bands, nodes) & links::links_right(nodes);
+    if !ends_and_links {
         return false;
     }
     mark_places::marks_right(bands, nodes, marks)

@@ -1,18 +1,15 @@
 // The test that ends and nodes match both ways.
 ghost use mathlib.Core.Path.{_≡_};
-ghost use Prim.Native.Nat.{_≤_, _<_};
-ghost use lib.ListN.{length, getD, set, replicate};
+ghost use Prim.Native.Nat.{_≤_, _<_, _^_};
+ghost use lib.ListN.{length, set, replicate};
 ghost use Rattle.rules.specs.Connectives.{saysYes};
-ghost use Rattle.rules.specs.Lists.{all, allFrom};
+ghost use Rattle.rules.specs.Lists.{all};
 ghost use Rattle.rules.specs.Room.{mostNodes};
-ghost use Rattle.store.specs.Sizes.{bandPlaces};
-ghost use Rattle.laying.specs.Ends.{endPlacesOf, endPlaces, endsMatch, noted};
+ghost use Rattle.laying.specs.Ends.{endPlacesOf, endPlaces, endsMatch, noted, allNoted};
 ghost use Rattle.store.specs.Places.{inUse};
 
-const BAND_PLACES: usize = 1024;
-
 // A place for each node, and one for the header.
-const MOST_PLACES: usize = 2049;
+const MOST_PLACES: usize = store::MOST_NODES + 1;
 
 // Notes an end's place, and answers whether it has one.
 fn note(place: usize, found: &mut [u32]) -> bool
@@ -26,7 +23,7 @@ fn note(place: usize, found: &mut [u32]) -> bool
 
 // Notes the places of the ends of the band of a number, if it is live, and answers whether all have one.
 fn note_ends_of(bands: &[u32], nodes: &[u32], number: usize, found: &mut [u32]) -> bool
-    requires { ⌜ number < bandPlaces ⌝ }
+    requires { ⌜ number < 2 ^ 32 ⌝ }
     ensures { λ r. ⌜
         (r ≡ all saysYes (endPlacesOf (now (bands .entry)) (now (nodes .entry)) number))
         × (now (found .exit) ≡ noted (now (found .entry)) (endPlacesOf (now (bands .entry)) (now (nodes .entry)) number))
@@ -50,7 +47,7 @@ fn note_ends(bands: &[u32], nodes: &[u32], found: &mut [u32]) -> bool
 {
     let mut right = true;
     let mut number = 0;
-    while number < BAND_PLACES {
+    while number < store::BAND_PLACES {
         let more = note_ends_of(bands, nodes, number, found);
         right = right & more;
         number += 1;
@@ -58,10 +55,10 @@ fn note_ends(bands: &[u32], nodes: &[u32], found: &mut [u32]) -> bool
     right
 }
 
-// Whether each place in use is noted.
+// Whether each node place in use is noted.
 fn all_noted(found: &[u32], in_use: usize) -> bool
     requires { ⌜ in_use < length (now found) ⌝ }
-    ensures { λ r. ⌜ r ≡ allFrom (λ i. saysYes (getD (now (found .entry)) i 0)) 1 «in_use» ⌝ }
+    ensures { λ r. ⌜ r ≡ allNoted (now (found .entry)) «in_use» ⌝ }
 {
     let mut place = 1;
     while place <= in_use {

@@ -2,19 +2,13 @@
 ghost use mathlib.Core.Path.{_≡_};
 ghost use Prim.Native.Nat.{_<_, _^_};
 ghost use lib.ListN.{length, replicate};
-ghost use lib.Dec.{eqb};
-ghost use Rattle.rules.specs.Lists.{allFrom};
 ghost use Rattle.rules.specs.NodesLanesEdges.{lanes};
-ghost use Rattle.store.specs.Places.{nodeField, linkField};
-ghost use Rattle.laying.specs.Links.{linksRight, linkDue, raised};
+ghost use Rattle.laying.specs.Links.{linksRight, linksDue, raised};
 
 // Whether the links of a place, in as many lanes as it has, lead to the first places ahead; in other lanes they are 0.
-fn place_links_right(nodes: &[u32], place: usize, level: usize, ahead: &[u32]) -> bool
+fn links_due(nodes: &[u32], place: usize, level: usize, ahead: &[u32]) -> bool
     requires { ⌜ (place < 2 ^ 32) × (length (now ahead) ≡ lanes) ⌝ }
-    ensures { λ r. ⌜
-        r
-        ≡ allFrom (λ i. eqb (nodeField (now (nodes .entry)) place (linkField i)) (linkDue level (now (ahead .entry)) i)) 0 lanes
-        ⌝ }
+    ensures { λ r. ⌜ r ≡ linksDue (now (nodes .entry)) place level (now (ahead .entry)) ⌝ }
 {
     let mut lane = 0;
     while lane < store::LANES {
@@ -51,13 +45,13 @@ fn links_right_with(nodes: &[u32], ahead: &mut [u32]) -> bool
     let mut place = store::node_word(nodes, store::HEADER, store::NODES_IN_USE);
     while 0 < place {
         let level = store::node_word(nodes, place, store::LEVEL);
-        if !place_links_right(nodes, place, level, ahead) {
+        if !links_due(nodes, place, level, ahead) {
             return false;
         }
         raise(place, level, ahead);
         place -= 1;
     }
-    place_links_right(nodes, store::HEADER, store::LANES, ahead)
+    links_due(nodes, store::HEADER, store::LANES, ahead)
 }
 
 // Whether the links of the header and of all nodes lead to the next place of each lane.

@@ -1,28 +1,31 @@
 // The test of fences and marks: the marks that the bands ask for are counted, and laid in a draft.
 ghost use mathlib.Core.Path.{_≡_};
-ghost use Prim.Native.Nat.{suc, _*_, _≤_, _<_};
+ghost use Prim.Native.Nat.{_*_, _≤_, _<_, _^_};
 ghost use lib.ListN.{length, take, replicate};
-ghost use Rattle.rules.specs.Lists.{allFrom, sameNumbers};
+ghost use Rattle.rules.specs.Lists.{sameNumbers};
 ghost use Rattle.rules.specs.Room.{mostNodes, mostMarks};
 ghost use Rattle.rules.specs.Staircase.{slotsPerNode};
-ghost use Rattle.laying.specs.MarkPlaces.{marksRight, fencesAt, marksLaid};
+ghost use Rattle.laying.specs.MarkPlaces.{marksInUseRight, marksRight, placeFencesAt, fencesAt, marksAsLaid};
 ghost use Rattle.store.specs.Places.{inUse};
 
 // A cursor for each slot of 2,048 nodes, and one past the last.
-const MOST_CURSORS: usize = 18433;
+const MOST_CURSORS: usize = store::MOST_NODES * store::SLOTS_PER_NODE + 1;
 
-const MOST_MARKS: usize = 16384;
-
-const SLOTS_PER_NODE: usize = 9;
+// Whether there is room for so many marks, and the header counts them.
+fn marks_in_use_right(nodes: &[u32], room: usize, count: usize) -> bool
+    ensures { λ r. ⌜ r ≡ marksInUseRight (now (nodes .entry)) room count ⌝ }
+{
+    (count <= room) & (store::node_word(nodes, store::HEADER, store::MARKS_IN_USE) == count)
+}
 
 // Whether the ten fences of a place are the starts of its slots and of the slot after them.
-fn place_fences_right(nodes: &[u32], starts: &[u32], place: usize) -> bool
-    requires { ⌜ (1 ≤ place) × (place ≤ mostNodes) × (place * slotsPerNode < length (now starts)) ⌝ }
-    ensures { λ r. ⌜ r ≡ fencesAt (now (nodes .entry)) (now (starts .entry)) place ⌝ }
+fn place_fences_at(nodes: &[u32], starts: &[u32], place: usize) -> bool
+    requires { ⌜ (1 ≤ place) × (place < 2 ^ 32) × (place * slotsPerNode < length (now starts)) ⌝ }
+    ensures { λ r. ⌜ r ≡ placeFencesAt (now (nodes .entry)) (now (starts .entry)) place ⌝ }
 {
-    let first = (place - 1) * SLOTS_PER_NODE;
+    let first = (place - 1) * store::SLOTS_PER_NODE;
     let mut slot = 0;
-    while slot <= SLOTS_PER_NODE {
+    while slot <= store::SLOTS_PER_NODE {
         if store::node_word(nodes, place, store::FENCES + slot) != starts[first + slot] as usize {
             return false;
         }
@@ -32,14 +35,14 @@ fn place_fences_right(nodes: &[u32], starts: &[u32], place: usize) -> bool
 }
 
 // Whether all fences are the starts of their slots.
-fn fences_right(nodes: &[u32], starts: &[u32]) -> bool
-    requires { ⌜ (inUse (now nodes) ≤ mostNodes) × (inUse (now nodes) * slotsPerNode < length (now starts)) ⌝ }
-    ensures { λ r. ⌜ r ≡ allFrom (fencesAt (now (nodes .entry)) (now (starts .entry))) 1 (inUse (now (nodes .entry))) ⌝ }
+fn fences_at(nodes: &[u32], starts: &[u32]) -> bool
+    requires { ⌜ inUse (now nodes) * slotsPerNode < length (now starts) ⌝ }
+    ensures { λ r. ⌜ r ≡ fencesAt (now (nodes .entry)) (now (starts .entry)) ⌝ }
 {
     let in_use = store::node_word(nodes, store::HEADER, store::NODES_IN_USE);
     let mut place = 1;
     while place <= in_use {
-        if !place_fences_right(nodes, starts, place) {
+        if !place_fences_at(nodes, starts, place) {
             return false;
         }
         place += 1;
@@ -63,7 +66,7 @@ fn same_words(words: &[u32], others: &[u32]) -> bool
 }
 
 // Whether the marks are those that the bands ask for, laid from these starts on.
-fn marks_stand(
+fn marks_as_laid(
     bands: &[u32],
     nodes: &[u32],
     marks: &[u32],
@@ -72,16 +75,11 @@ fn marks_stand(
 ) -> bool
     requires { ⌜
         (inUse (now nodes) ≤ mostNodes)
-        × (length (now draft) ≡ mostMarks)
-        × (length (now marks) ≤ mostMarks)
+        × (length (now draft) ≤ mostMarks)
+        × (length (now marks) ≤ length (now draft))
         ⌝ }
     ensures { λ r. ⌜
-        r
-        ≡ sameNumbers
-        (now (marks .entry))
-        (take
-        (length (now (marks .entry)))
-        (marksLaid (now (bands .entry)) (now (nodes .entry)) (now (starts .entry)) (now (draft .entry))))
+        r ≡ marksAsLaid (now (bands .entry)) (now (nodes .entry)) (now (marks .entry)) (now (starts .entry)) (now (draft .entry))
         ⌝ }
 {
     marking::lay(bands, nodes, starts, draft);
@@ -100,23 +98,20 @@ fn marks_right_with(
         (inUse (now nodes) ≤ mostNodes)
         × (length (now marks) ≤ mostMarks)
         × (now cursors ≡ replicate (length (now cursors)) 0)
-        × (length (now cursors) ≡ suc (mostNodes * slotsPerNode))
+        × (mostNodes * slotsPerNode < length (now cursors))
         × (now draft ≡ replicate mostMarks 0)
         ⌝ }
     ensures { λ r. ⌜ r ≡ marksRight (now (bands .entry)) (now (nodes .entry)) (now (marks .entry)) ⌝ }
 {
     let sum = marking::count(bands, nodes, marks.len(), cursors);
-    if marks.len() < sum {
-        return false;
-    }
-    if store::node_word(nodes, store::HEADER, store::MARKS_IN_USE) != sum {
+    if !marks_in_use_right(nodes, marks.len(), sum) {
         return false;
     }
     marking::start(cursors);
-    if !fences_right(nodes, cursors) {
+    if !fences_at(nodes, cursors) {
         return false;
     }
-    marks_stand(bands, nodes, marks, cursors, draft)
+    marks_as_laid(bands, nodes, marks, cursors, draft)
 }
 
 // Whether fences, marks and the count of marks are those that the bands ask for.
@@ -125,6 +120,6 @@ pub(crate) fn marks_right(bands: &[u32], nodes: &[u32], marks: &[u32]) -> bool
     ensures { λ r. ⌜ r ≡ marksRight (now (bands .entry)) (now (nodes .entry)) (now (marks .entry)) ⌝ }
 {
     let mut cursors = [0u32; MOST_CURSORS];
-    let mut draft = [0u32; MOST_MARKS];
+    let mut draft = [0u32; store::MOST_MARKS];
     marks_right_with(bands, nodes, marks, &mut cursors, &mut draft)
 }

@@ -3,12 +3,13 @@
 --   WalkedSlots        a walk stop by stop: it ends, and visits at most two slots a node
 --   StaircasesInRange  every slot visited is that of a node in use
 --   MarksLeft          the marks of the numbers that a loop still has before it
---   CountSteps         marks counted slot by slot
+--   CountSteps         marks counted slot by slot and number by number
 --   StartSteps         counts turned into starts one by one
 --   LaySteps           marks laid one by one
 -- Of marks sorted by slot:
 --   InSlots            the numbers of slots that stand side by side
 --   CountsAndStarts    counted by slot, and counts turned into starts
+--   Counted            counted number by number up to a room
 --   BucketLaw          laid from the starts on, each slot has its numbers in the order of the marks
 -- Of words that say a standing profile:
 --   Linked             node words whose places in use have keys in order and their nodes' links
@@ -26,6 +27,7 @@ pub mod StartSteps
 pub mod LaySteps
 pub mod InSlots
 pub mod CountsAndStarts
+pub mod Counted
 pub mod BucketLaw
 pub mod Linked
 pub mod WalkOnLinked

@@ -45,7 +45,7 @@ staircases-from bands nodes slots b (suc m) same = go (saysLive bands b) same (s
 
 module _ (bands nodes : List ℕ) (linked : Linked nodes) (stands : Standing (saidBy bands nodes)) where
   -- the staircases are the marks of the bands one after the other, each along the walk of the rules
-  pub staircases-by-band : staircases bands nodes ≡ walkMarks (saidBy bands nodes)
+  staircases-by-band : staircases bands nodes ≡ walkMarks (saidBy bands nodes)
   unfolding staircases walkMarks saidBands
   staircases-by-band =
       staircases-from bands nodes (walk (saidNodes nodes)) 0 bandPlaces

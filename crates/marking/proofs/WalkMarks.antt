@@ -19,7 +19,7 @@ use Rattle.rules.proofs.Theory.Staircase.{walk-visits, walk-visits-node, walk-a
 use Rattle.store.specs.LaidMarks.{slotMarks, slotsMarks, nodeMarks, laidMarksFrom}
 use Rattle.store.proofs.LaidMarks.{marksBefore}
 use Rattle.marking.specs.Buckets.{Mark, inSlot, inSlots, startOf}
-use Rattle.marking.proofs.InSlots.{slots-join}
+use Rattle.marking.proofs.InSlots.{row-apart}
 use Rattle.marking.proofs.BandMarks.{marksAlong, numbers-in-slot, along-count}
 
 -- the marks of all bands of a profile, of each in the slots that its walk visits
@@ -103,7 +103,7 @@ module _ (p : Profile) (stands : Standing p) where
   nodes-of-walks j (suc k) [] at l = absurd (omega arith)
   nodes-of-walks j (suc k) (n ∷ rest) at l =
       ap (λ m. inSlots (slotNumber j 0) m (walkMarks p)) (one-node-more k)
-      ∙ slots-join (slotNumber j 0) slotsPerNode (k * slotsPerNode) (walkMarks p)
+      ∙ row-apart (λ s. inSlot s (walkMarks p)) (slotNumber j 0) slotsPerNode (k * slotsPerNode)
       ∙ rw (node-of-walks j n rest at, next-node j, nodes-of-walks (suc j) k rest (rest-follows j (p .nodes) at) (omega arith))
 
   first-nodes : (k : ℕ) → k ≤ length (p .nodes) → inSlots 0 (k * slotsPerNode) (walkMarks p) ≡ marksBefore p k (p .nodes)
@@ -124,7 +124,7 @@ module _ (p : Profile) (stands : Standing p) where
     before-slot : inSlots 0 (slotNumber j s) (walkMarks p) ≡ marksBefore p j (p .nodes) ++ slotsMarks p n rest 0 s
     before-slot =
         ap (λ m. inSlots 0 m (walkMarks p)) (slots-before j s)
-        ∙ slots-join 0 (j * slotsPerNode) s (walkMarks p)
+        ∙ row-apart (λ t. inSlot t (walkMarks p)) 0 (j * slotsPerNode) s
         ∙ rw (first-nodes j (omega (arith, place-within j (p .nodes) at)), zero-add, slots-of-nodes j, slots-of-walks j n rest at 0 s (omega arith))
 
     -- .. and after so many its own start

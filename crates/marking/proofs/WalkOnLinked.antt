@@ -1,7 +1,7 @@
 -- A band's staircase walked on linked node words, from a low end at which a node stands, is the walk of the rules over the nodes that the words say.
 -- Assumes nothing.
 use Prim.Native.Nat.{ℕ, zero, suc, _+_, _-_, _≤_, _<_}
-use mathlib.Core.Path.{_≡_, refl, sym, _∙_, ap, subst}
+use mathlib.Core.Path.{_≡_, sym, _∙_, ap, subst}
 use mathlib.Core.Bool.{Bool, true, false, cond}
 use mathlib.Core.Logic.{_⊎_, inl, inr}
 use mathlib.Core.List.{List, [], _∷_, _++_}
@@ -30,6 +30,7 @@ use Rattle.search.specs.PlaceOf.{placeOf}
 use Rattle.search.proofs.PlaceAmongSaid.{PlaceFound, nowhere, at-place, place-among-said}
 use Rattle.marking.specs.WordWalk.{leadsWithin, stairBelow, stairAt, stairTo, visited, walkOn, walked}
 use Rattle.marking.proofs.Linked.{Linked}
+use Rattle.marking.proofs.WalkedSlots.{walk-ends}
 
 -- the walk of the rules to the key of a node skips all nodes before it
 skips-to : (b : Band) {n : Node} {rest : List Node} (c j d : ℕ) (ms : List Node) → Asc c ms → drop d ms ≡ n ∷ rest
@@ -99,11 +100,6 @@ module _ (nodes : List ℕ) (l : Linked nodes) (b : Band) where
       (j : ℕ) (n : Node) (rest : List Node) → drop j (saidNodes nodes) ≡ n ∷ rest → length rest < m
       → walkOn nodes b m (suc j) ≡ walkFrom b (n .key) j (n ∷ rest)
 
-  -- place 0 ends the walk
-  walk-ends : (m : ℕ) → walkOn nodes b m 0 ≡ []
-  walk-ends zero = refl
-  walk-ends (suc m) = refl
-
   module _ (m : ℕ) (on : WalkAlike m) (j : ℕ) (n : Node) (rest : List Node) (at : drop j (saidNodes nodes) ≡ n ∷ rest) (h : length rest ≤ m) where
     -- on from the next node of a lane
     alike-onward : {i : ℕ} (x : Next i rest) → walkOn nodes b m (suc (suc j + x .skipped)) ≡ walkFrom b (x .node .key) (suc j) rest
@@ -118,7 +114,7 @@ module _ (nodes : List ℕ) (l : Linked nodes) (b : Band) where
         → visited nodes b (suc j) stair ++ walkOn nodes b m (stairTo nodes (suc j) stair)
         ≡ addIf (holds b (n .key)) (slotNumber j 0) (along j o (λ y. walkFrom b y (suc j) rest))
     alike-here stair o no-stair =
-        let before : suc j - 1 ≡ j = omega arith in rw (said-key nodes j at, before, walk-ends m, add-append)
+        let before : suc j - 1 ≡ j = omega arith in rw (said-key nodes j at, before, walk-ends nodes b m, add-append)
     alike-here stair o (to-next {i} x e) =
         let before : suc j - 1 ≡ j = omega arith in
         rw (said-key nodes j at, before, e, add-append, ne-eqb (suc i) 0 (λ z. omega arith), alike-onward x)

@@ -64,7 +64,7 @@ length-both at v w true u = omega arith
 length-both at v w false u = omega arith
 
 -- the node's own slot at a place, from which its other slots count
-abbrev pub ownSlot : ℕ → ℕ
+abbrev ownSlot : ℕ → ℕ
 ownSlot here = (here - 1) * slotsPerNode
 
 -- what is visited at a place is stored so

@@ -7,7 +7,7 @@ use mathlib.Core.Path.{_≡_, refl, sym, _∙_, ap}
 use mathlib.Core.Bool.{Bool, true, false, cond}
 use mathlib.Core.Logic.{_⊎_, inl, inr, ⊎-elim}
 use mathlib.Core.List.{List, [], _∷_, _++_}
-use borrow.Author.Tests.{ltb-true, leb-true, eq-eqb, ne-eqb}
+use borrow.Author.Tests.{ltb-true, leb-true, ne-eqb}
 use lib.Dec.{eqb}
 use lib.ListN.{length, set, take, length-append}
 use lib.Seq.{sets, sets-eq, length-sets, take-at}
@@ -91,6 +91,11 @@ module _ (nodes : List ℕ) (b : Band) where
 
   -- ---- in the midst of the walk
 
+  -- place 0 ends the walk
+  pub walk-ends : (m : ℕ) → walkOn nodes b m 0 ≡ []
+  walk-ends zero = refl
+  walk-ends (suc m) = refl
+
   -- the walk stands at a place in use, or is at its end, with the first of its slots written over old words: the steps left are enough, and with
   -- the slots that they visit all are written and counted
   pub record Midway (old slots : List ℕ) (count here : ℕ) : Type 0 where
@@ -123,20 +128,14 @@ module _ (nodes : List ℕ) (b : Band) where
     as-long = sym (length-sets slots count (walkOn nodes b (mid .steps) here)) ∙ ap length (mid .written) ∙ length-sets old 0 (walked nodes b)
 
     -- at its end nothing is left to write ..
-    walk-ends : here ≡ 0 → (slots ≡ sets old 0 (walked nodes b)) × (count ≡ length (walked nodes b))
-    walk-ends e = go (mid .steps) (mid .written) (mid .counted)
-      where
-        go : (m : ℕ) → sets slots count (walkOn nodes b m here) ≡ sets old 0 (walked nodes b)
-            → count + length (walkOn nodes b m here) ≡ length (walked nodes b)
-            → (slots ≡ sets old 0 (walked nodes b)) × (count ≡ length (walked nodes b))
-        go zero w n = (w, omega arith)
-        go (suc m) w n = (rw (eq-eqb here 0 e) at w, omega (arith, rw (eq-eqb here 0 e) at n))
+    none-to-write : here ≡ 0 → (slots ≡ sets old 0 (walked nodes b)) × (count ≡ length (walked nodes b))
+    none-to-write e = (rw (e, walk-ends) at (mid .written), omega (arith, rw (e, walk-ends) at (mid .counted)))
 
     -- .. and the slots stand in the first words
-    pub all-written : inUse nodes ≤ mostNodes → length old ≡ mostSlots → here ≡ 0
+    pub all-written : inUse nodes ≤ mostNodes → mostSlots ≤ length old → here ≡ 0
         → (count ≡ length (walked nodes b)) × (take count slots ≡ walked nodes b) × (count ≤ mostSlots)
     all-written few long e =
-        let ends = walk-ends e in
+        let ends = none-to-write e in
         let within = walked-within few in
         (ends .1, rw (ends .0, ends .1) (stored-first old (walked nodes b) (omega arith)), omega arith)
 

@@ -2,4 +2,4 @@
 pub mod WordWalk
 pub mod Buckets
 pub mod Staircases
-pub mod Counted
+pub mod CountUpTo

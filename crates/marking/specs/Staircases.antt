@@ -15,6 +15,7 @@ abbrev pub staircasesFrom : List ℕ → List ℕ → ℕ → ℕ → List Mark
 staircasesFrom bands nodes b zero = []
 staircasesFrom bands nodes b (suc m) = marksIn b (slotsOf bands nodes b) ++ staircasesFrom bands nodes (suc b) m
 
+-- the marks of all numbers
 unfoldable pub staircases : List ℕ → List ℕ → List Mark
 staircases bands nodes = staircasesFrom bands nodes 0 bandPlaces
 

@@ -25,6 +25,7 @@ abbrev pub stairBelow : List ℕ → ℕ → ℕ → ℕ → ℕ
 stairBelow nodes high here zero = 0
 stairBelow nodes high here (suc i) = cond (leadsWithin nodes high here i) (suc i) (stairBelow nodes high here i)
 
+-- of all lanes the highest, as a slot: the stair of a place; 0 for none
 unfoldable pub stairAt : List ℕ → ℕ → ℕ → ℕ
 stairAt nodes high here = stairBelow nodes high here lanes
 

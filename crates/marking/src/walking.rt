@@ -14,7 +14,8 @@ ghost use Rattle.marking.specs.Staircases.{mostSlots};
 use hall::Band;
 use hall::Key;
 
-const SLOTS_PER_NODE: usize = 9;
+// The most slots that one walk visits.
+pub(crate) const MOST_SLOTS: usize = 4096;
 
 // Whether the link leads to a later place in use, whose key is not above the high end.
 fn leads_within(nodes: &[u32], here: usize, lane: usize, high: Key) -> bool
@@ -33,12 +34,12 @@ fn stair_at(nodes: &[u32], here: usize, high: Key) -> usize
     requires { ⌜ here < 2 ^ 32 ⌝ }
     ensures { λ r. ⌜ (r ≡ stairAt (now (nodes .entry)) (high .0) here) × (r ≤ lanes) ⌝ }
 {
-    let mut lanes = store::LANES;
-    while 0 < lanes {
-        if leads_within(nodes, here, lanes - 1, high) {
-            return lanes;
+    let mut below = store::LANES;
+    while 0 < below {
+        if leads_within(nodes, here, below - 1, high) {
+            return below;
         }
-        lanes -= 1;
+        below -= 1;
     }
     0
 }
@@ -96,7 +97,7 @@ fn visit(
         × (r ≡ at + length (visited (now (nodes .entry)) (said band) here stair))
         ⌝ }
 {
-    let first = (here - 1) * SLOTS_PER_NODE;
+    let first = (here - 1) * store::SLOTS_PER_NODE;
     let key = store::node_word(nodes, here, store::KEY);
     let holds = band.holds(Key(key as u32));
     let next = put_word_if(slots, at, first, holds);
@@ -105,7 +106,7 @@ fn visit(
 
 // Writes the slots of one band, and answers how many they are.
 fn walk(nodes: &[u32], band: Band, slots: &mut [u32]) -> usize
-    requires { ⌜ (inUse (now nodes) ≤ mostNodes) × (length (now slots) ≡ mostSlots) ⌝ }
+    requires { ⌜ (inUse (now nodes) ≤ mostNodes) × (mostSlots ≤ length (now slots)) ⌝ }
     ensures { λ r. ⌜
         (r ≡ length (walked (now (nodes .entry)) (said band)))
         × (take r (now (slots .exit)) ≡ walked (now (nodes .entry)) (said band))
@@ -129,7 +130,7 @@ pub(crate) fn slots_of(bands: &[u32], nodes: &[u32], number: usize, slots: &mut 
     requires { ⌜
         (number < 2 ^ 32)
         × (inUse (now nodes) ≤ mostNodes)
-        × (length (now slots) ≡ mostSlots)
+        × (mostSlots ≤ length (now slots))
         ⌝ }
     ensures { λ r. ⌜
         (r ≡ length (slotsOf (now (bands .entry)) (now (nodes .entry)) number))

@@ -9,8 +9,8 @@ use mathlib.Core.Option.{none, some}
 use native.Mathlib.Numerals.{add-one}
 use native.Mathlib.Omega.{arith}
 use native.Mathlib.Nat.{eq-or-lt-of-le, add-zero}
-use lib.Dec.{ltb}
-use lib.ListN.{length, getD, drop, length-drop}
+use lib.Dec.{ltb, eqb}
+use lib.ListN.{length, getD, take, drop, length-drop}
 use lib.Seq.{drop-nil, drop-drop}
 use borrow.Author.Tests.{ltb-true, ltb-false, lt-ltb, le-ltb}
 use Rattle.rules.specs.Connectives.{_and_, oneIf}
@@ -381,6 +381,20 @@ module _ (f : ℕ → Bool) where
 
     pub all-done : n ≤ i → allFrom f i (n - i) ≡ true
     all-done l = let none : n - i ≡ 0 = omega arith in rw none
+
+-- two lists have the same number at an index
+abbrev pub sameAt : List ℕ → List ℕ → ℕ → Bool
+sameAt xs ys i = eqb (getD xs i 0) (getD ys i 0)
+
+-- a list gone through index by index against the first of another that is no shorter
+pub same-at-each : (xs ys : List ℕ) → length xs ≤ length ys → allFrom (sameAt xs ys) 0 (length xs) ≡ sameNumbers xs (take (length xs) ys)
+same-at-each [] ys l = refl
+same-at-each (x ∷ xs) [] l = absurd (omega arith)
+same-at-each (x ∷ xs) (y ∷ ys) l = ap (λ t. eqb x y and t) (later 0 (length xs) ∙ same-at-each xs ys (omega arith))
+  where
+    later : (i n : ℕ) → allFrom (sameAt (x ∷ xs) (y ∷ ys)) (suc i) n ≡ allFrom (sameAt xs ys) i n
+    later i zero = refl
+    later i (suc n) = ap (λ t. sameAt xs ys i and t) (later (suc i) n)
 
 -- ---- ascending lists
 

@@ -1,4 +1,5 @@
--- Where the node of a key stands, found by halving: the first of the places in use whose key is not below it, if that is the key.
+-- Where the node of a key stands, found by halving: where halving comes to rest, if that place has the key. Where keys ascend it is the first of
+-- the places in use whose key is not below it.
 -- Assumes nothing.
 use Prim.Native.Nat.{ℕ, zero, suc, _+_, _-_, _/_, min}
 use mathlib.Core.Bool.{Bool, cond}
@@ -30,7 +31,7 @@ halved nodes k (suc m) low high =
     let on : ℕ = halved nodes k m (cond below mid low) (cond below high mid) in
     cond (ltb (low + 1) high) on high
 
--- the first place that is not below k, from the header and the place past the last in use
+-- where halving comes to rest, from the header and the place past the last in use; where keys ascend, the first place that is not below k
 unfoldable pub firstNotBelow : List ℕ → ℕ → ℕ
 firstNotBelow nodes k = halved nodes k (placesInUse nodes) header (placesInUse nodes + 1)
 

@@ -4,9 +4,9 @@ use Prim.Native.Nat.{ℕ}
 use mathlib.Core.Path.{_≡_, sym, ap, _∙_}
 use mathlib.Core.Bool.{Bool, true, false}
 use mathlib.Core.List.{List}
-use borrow.Author.Needs.{needs}
 use Rattle.rules.specs.Connectives.{_or_}
 use Rattle.laying.specs.BandPlaces.{bandPlaceFree, bandPlaceLive, bandPlaceRight}
+use borrow.Author.Needs.{needs}
 use Rattle.laying.proofs.band_places.place_right.Statement.{statement}
 use Rattle.laying.proofs.band_places.place_right.Tie as tie
 
@@ -20,33 +20,17 @@ module _ (bands : List ℕ) (b : ℕ) {t : Bool} (free : t ≡ bandPlaceFree ban
   unfolding bandPlaceRight _or_
   live-right e = ap (λ f. f or bandPlaceLive bands b) (sym e ∙ free)
 
-mul-first : tie.Need-mul-first
-mul-first c = search needs
-
-add-zeros-between : tie.Need-add-zeros-between
-add-zeros-between c = search needs
-
-zeros-between-requires : tie.Need-zeros-between-requires
-zeros-between-requires c κs = search needs
+place-free-requires : tie.Need-place-free-requires
+place-free-requires c κs = search needs
 
 returns : tie.Need-returns
-unfolding bandPlaceFree
-returns c = free-right _ _ (c .before .zeros-between .ensures) (c .if1 .taken)
+returns c = free-right _ _ (c .before .place-free .ensures) (c .if1 .taken)
 
 place-live-requires : tie.Need-place-live-requires
 place-live-requires c κs = search needs
 
 returns-2 : tie.Need-returns-2
-unfolding bandPlaceFree
-returns-2 c = c .place-live .ensures ∙ live-right _ _ (c .before .before .zeros-between .ensures) (c .before .if1 .left)
+returns-2 c = c .place-live .ensures ∙ live-right _ _ (c .before .before .place-free .ensures) (c .before .if1 .left)
 
 pub place-right-spec : {M : Type 1} → statement M
-place-right-spec =
-    tie.close
-    (tie.spec
-    mul-first
-    add-zeros-between
-    zeros-between-requires
-    returns
-    place-live-requires
-    returns-2)
+place-right-spec = tie.close (tie.spec place-free-requires returns place-live-requires returns-2)

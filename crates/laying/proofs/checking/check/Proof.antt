@@ -64,12 +64,12 @@ marks-right-requires c κs = within (c .before .before .before)
 returns-4 : tie.Need-returns-4
 unfolding tested
 returns-4 c =
-    let joins = c .before in
-    let places = joins .before .before .before in
+    let ends-and-links = c .before in
+    let places = ends-and-links .before .before .before in
     let sizes = places .before .before .before in
     left-to-next (sizes .before .sizes-right .ensures) _ (sizes .if1 .left)
     (left-to-next (both (places .before .before .band-places-right .ensures) (places .before .node-places-right .ensures)) _ (places .if2 .left)
-    (left-to-next (both (joins .before .before .ends-match .ensures) (joins .before .links-right .ensures)) _ (joins .if3 .left)
+    (left-to-next (both (ends-and-links .before .before .ends-match .ensures) (ends-and-links .before .links-right .ensures)) _ (ends-and-links .if3 .left)
     (c .marks-right .ensures)))
 
 pub check-spec : {M : Type 1} → statement M

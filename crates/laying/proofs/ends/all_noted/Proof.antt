@@ -1,31 +1,27 @@
 -- `laying::ends::all_noted` meets its contract. The loop's invariant: testing from here on decides as testing all does.
 -- Assumes nothing.
-use Prim.Native.Nat.{ℕ, _+_, _-_, _≤_}
+use Prim.Native.Nat.{_+_, _-_, _≤_}
 use mathlib.Core.Path.{_≡_, sym, _∙_, ap}
-use mathlib.Core.Bool.{Bool, not}
-use mathlib.Core.List.{List}
+use mathlib.Core.Bool.{not}
 use native.Mathlib.Omega.{arith}
 use borrow.Author.Needs.{needs}
 use borrow.Author.Tests.{ne-eqb}
-use lib.ListN.{getD}
 use Rattle.rules.specs.Connectives.{saysYes}
 use Rattle.rules.specs.Lists.{allFrom}
 use Rattle.rules.proofs.Lists.{all-stopped, all-onward, all-done}
+use Rattle.laying.specs.Ends.{isNoted, allNoted}
 use Rattle.laying.proofs.ends.all_noted.Statement.{statement}
 use Rattle.laying.proofs.ends.all_noted.Tie as tie
 
--- the place is noted
-abbrev isNoted : List ℕ → ℕ → Bool
-isNoted found i = saysYes (getD found i 0)
-
 abbrev Inv-loop : tie.InvT-loop
 Inv-loop found in-use place₀ place =
-    (1 ≤ place) × (allFrom (isNoted found) place (in-use + 1 - place) ≡ allFrom (isNoted found) 1 in-use)
+    (1 ≤ place) × (allFrom (isNoted found) place (in-use + 1 - place) ≡ allNoted found in-use)
 
 abbrev μ-loop : tie.MeasureT-loop
 μ-loop found in-use place₀ place = in-use + 1 - place
 
 loop-holds : tie.Need-loop-holds Inv-loop μ-loop
+unfolding allNoted
 loop-holds c = let all : c .args .in-use + 1 - 1 ≡ c .args .in-use = omega arith in (search needs, rw all)
 
 mul-if1 : tie.Need-mul-if1 Inv-loop μ-loop

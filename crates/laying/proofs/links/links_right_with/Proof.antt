@@ -35,8 +35,8 @@ loop-holds c = (
 node-word-requires-2 : tie.Need-node-word-requires-2 Inv-loop μ-loop
 node-word-requires-2 c κs = search needs
 
-place-links-right-requires : tie.Need-place-links-right-requires Inv-loop μ-loop
-place-links-right-requires c κs = search needs
+links-due-requires : tie.Need-links-due-requires Inv-loop μ-loop
+links-due-requires c κs = search needs
 
 same-length : tie.Need-same-length Inv-loop μ-loop
 same-length c =
@@ -44,13 +44,13 @@ same-length c =
     ∙ sym (ap length (c .before .before .before .before .before .before .before .before .before .pre))
 
 -- the answer about a place's links, known by the first places ahead, is that of the test
-answer : (c : tie.After-place-links-right Inv-loop μ-loop)
-    → c .place-links-right .result
+answer : (c : tie.After-links-due Inv-loop μ-loop)
+    → c .links-due .result
     ≡ placeLinksRight
     (c .before .before .before .before .before .before .before .before .args .nodes .now)
     (c .before .before .before .before .loop .place)
 answer c =
-    c .place-links-right .ensures
+    c .links-due .ensures
     ∙ links-by-ahead _ _ _ _
     (c .before .before .node-word2 .ensures .0 ∙ sym (node-lanes _ _ (c .before .before .before .loop-test .taken)))
     (c .before .before .before .before .loop .inv .0)
@@ -85,8 +85,8 @@ loop-again c = (
       ∙ c .before .before .before .before .before .before .before .before .before .loop .inv .3,
 )
 
-place-links-right-requires-2 : tie.Need-place-links-right-requires-2 Inv-loop μ-loop
-place-links-right-requires-2 c κs = search needs
+links-due-requires-2 : tie.Need-links-due-requires-2 Inv-loop μ-loop
+links-due-requires-2 c κs = search needs
 
 same-length-2 : tie.Need-same-length-2 Inv-loop μ-loop
 same-length-2 c =
@@ -94,7 +94,7 @@ same-length-2 c =
 
 returns-2 : tie.Need-returns-2 Inv-loop μ-loop
 returns-2 c =
-    c .place-links-right2 .ensures
+    c .links-due2 .ensures
     ∙ links-at-header _ _ _ (c .before .before .loop-test .left) (c .before .before .before .loop .inv .0)
     ∙ c .before .before .before .loop .inv .3
 
@@ -107,13 +107,13 @@ links-right-with-spec =
     node-word-requires
     loop-holds
     node-word-requires-2
-    place-links-right-requires
+    links-due-requires
     same-length
     returns
     raise-requires
     sub-place
     loop-less
     loop-again
-    place-links-right-requires-2
+    links-due-requires-2
     same-length-2
     returns-2)

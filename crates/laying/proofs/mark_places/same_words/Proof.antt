@@ -1,13 +1,13 @@
 -- `laying::mark_places::same_words` meets its contract. The loop's invariant: the words from here on are the same exactly when all are.
 -- Assumes nothing.
 use Prim.Native.Nat.{_-_}
+use native.Mathlib.Nat.{sub-zero}
 use mathlib.Core.Path.{_≡_, sym, _∙_}
 use borrow.Author.Needs.{needs}
 use borrow.Author.Tests.{eq-eqb, ne-eqb}
 use lib.ListN.{length, take}
 use Rattle.rules.specs.Lists.{allFrom, sameNumbers}
-use Rattle.rules.proofs.Lists.{all-stopped, all-onward, all-done}
-use Rattle.laying.proofs.MarkTests.{sameAt, same-words}
+use Rattle.rules.proofs.Lists.{all-stopped, all-onward, all-done, sameAt, same-at-each}
 use Rattle.laying.proofs.mark_places.same_words.Statement.{statement}
 use Rattle.laying.proofs.mark_places.same_words.Tie as tie
 
@@ -18,7 +18,7 @@ abbrev μ-loop : tie.MeasureT-loop
 μ-loop words others at₀ at = length words - at
 
 loop-holds : tie.Need-loop-holds Inv-loop μ-loop
-loop-holds c = same-words (c .args .words .now) (c .args .others .now) (c .pre)
+loop-holds c = rw sub-zero (same-at-each (c .args .words .now) (c .args .others .now) (c .pre))
 
 mul-if1 : tie.Need-mul-if1 Inv-loop μ-loop
 mul-if1 c = search needs

@@ -7,14 +7,14 @@ use borrow.Author.Needs.{needs}
 use borrow.Author.Tests.{not-true, not-false}
 use Rattle.rules.specs.Lists.{allFrom}
 use Rattle.rules.proofs.Lists.{all-stopped, all-onward, all-done}
-use Rattle.laying.specs.NodePlaces.{nodeRight}
+use Rattle.laying.specs.NodePlaces.{nodeRight, nodesRight}
 use Rattle.laying.proofs.node_places.nodes_right.Statement.{statement}
 use Rattle.laying.proofs.node_places.nodes_right.Tie as tie
 use Rattle.store.specs.Places.{inUse}
 
 abbrev Inv-loop : tie.InvT-loop
 Inv-loop nodes in-use place₀ place =
-    (1 ≤ place) × (allFrom (nodeRight nodes) place (inUse nodes + 1 - place) ≡ allFrom (nodeRight nodes) 1 (inUse nodes))
+    (1 ≤ place) × (allFrom (nodeRight nodes) place (inUse nodes + 1 - place) ≡ nodesRight nodes)
 
 abbrev μ-loop : tie.MeasureT-loop
 μ-loop nodes in-use place₀ place = inUse nodes + 1 - place
@@ -23,6 +23,7 @@ node-word-requires : tie.Need-node-word-requires Inv-loop μ-loop
 node-word-requires c κs = search needs
 
 loop-holds : tie.Need-loop-holds Inv-loop μ-loop
+unfolding nodesRight
 loop-holds c =
     let all-left : inUse (c .before .before .args .nodes .now) + 1 - 1 ≡ inUse (c .before .before .args .nodes .now) = omega arith in
     (omega arith, ap (allFrom (nodeRight _) 1) all-left)

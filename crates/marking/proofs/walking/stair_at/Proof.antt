@@ -29,10 +29,10 @@ leads-within-requires c κs = search needs
 returns : tie.Need-returns Inv-loop μ-loop
 returns c =
     let here = c .before .before .before .loop .inv in
-    (sym (stair-here _ _ _ (c .before .before .before .loop .lanes) (omega arith) (sym (c .before .leads-within .ensures) ∙ c .if1 .taken)) ∙ here .1, here .0)
+    (sym (stair-here _ _ _ (c .before .before .before .loop .below) (omega arith) (sym (c .before .leads-within .ensures) ∙ c .if1 .taken)) ∙ here .1, here .0)
 
-sub-lanes : tie.Need-sub-lanes Inv-loop μ-loop
-sub-lanes c = search needs
+sub-below : tie.Need-sub-below Inv-loop μ-loop
+sub-below c = search needs
 
 loop-less : tie.Need-loop-less Inv-loop μ-loop
 loop-less c = search needs
@@ -40,10 +40,10 @@ loop-less c = search needs
 loop-again : tie.Need-loop-again Inv-loop μ-loop
 loop-again c =
     let here = c .before .before .before .loop .inv in
-    (omega arith, sym (stair-lower _ _ _ (c .before .before .before .loop .lanes) (omega arith) (sym (c .before .leads-within .ensures) ∙ c .if1 .left)) ∙ here .1)
+    (omega arith, sym (stair-lower _ _ _ (c .before .before .before .loop .below) (omega arith) (sym (c .before .leads-within .ensures) ∙ c .if1 .left)) ∙ here .1)
 
 returns-2 : tie.Need-returns-2 Inv-loop μ-loop
-returns-2 c = (sym (no-stair _ _ _ (c .before .loop .lanes) (omega arith)) ∙ c .before .loop .inv .1, omega arith)
+returns-2 c = (sym (no-stair _ _ _ (c .before .loop .below) (omega arith)) ∙ c .before .loop .inv .1, omega arith)
 
 pub stair-at-spec : {M : Type 1} → statement M
 stair-at-spec =
@@ -55,7 +55,7 @@ stair-at-spec =
     sub-leads-within
     leads-within-requires
     returns
-    sub-lanes
+    sub-below
     loop-less
     loop-again
     returns-2)

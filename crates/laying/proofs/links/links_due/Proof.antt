@@ -1,4 +1,4 @@
--- `laying::links::place_links_right` meets its contract. The loop's invariant: the test of the lanes from here on is that of all lanes.
+-- `laying::links::links_due` meets its contract. The loop's invariant: the test of the lanes from here on is that of all lanes.
 -- Assumes nothing.
 use Prim.Native.Nat.{_-_}
 use mathlib.Core.Path.{_≡_, refl, sym, _∙_}
@@ -6,22 +6,24 @@ use mathlib.Core.Logic.{⊎-elim}
 use native.Mathlib.Omega.{arith}
 use borrow.Author.Needs.{needs}
 use borrow.Author.Tests.{eq-eqb, ne-eqb}
+use lib.ListN.{getD}
 use Rattle.rules.specs.Lists.{allFrom}
 use Rattle.rules.specs.NodesLanesEdges.{lanes}
 use Rattle.rules.proofs.Lists.{all-stopped, all-onward, all-done}
-use Rattle.laying.specs.Links.{linkDue}
-use Rattle.laying.proofs.LinkSteps.{dueRight, link-due, no-link-due}
-use Rattle.laying.proofs.links.place_links_right.Statement.{statement}
-use Rattle.laying.proofs.links.place_links_right.Tie as tie
+use Rattle.laying.specs.Links.{linkDue, linkByAhead, linksDue}
+use Rattle.laying.proofs.LinkSteps.{link-due, no-link-due}
+use Rattle.laying.proofs.links.links_due.Statement.{statement}
+use Rattle.laying.proofs.links.links_due.Tie as tie
 
 abbrev Inv-loop : tie.InvT-loop
 Inv-loop nodes place level ahead lane₀ lane =
-    allFrom (dueRight nodes place level ahead) lane (lanes - lane) ≡ allFrom (dueRight nodes place level ahead) 0 lanes
+    allFrom (linkByAhead nodes place level ahead) lane (lanes - lane) ≡ linksDue nodes place level ahead
 
 abbrev μ-loop : tie.MeasureT-loop
 μ-loop nodes place level ahead lane₀ lane = lanes - lane
 
 loop-holds : tie.Need-loop-holds Inv-loop μ-loop
+unfolding linksDue
 loop-holds c = refl
 
 mul-due : tie.Need-mul-due Inv-loop μ-loop
@@ -44,8 +46,8 @@ due-here : (c : tie.After-node-word Inv-loop μ-loop)
     → c .before .if1 .due
     ≡ linkDue
     (c .before .before .before .before .before .before .args .level)
-    (c .before .before .before .before .before .before .args .ahead .now)
     (c .before .before .before .loop .lane)
+    (getD (c .before .before .before .before .before .before .args .ahead .now) (c .before .before .before .loop .lane) 0)
 due-here c =
     ⊎-elim
     (λ w. w .2 ∙ link-due _ (c .before .before .before .before .before .before .args .ahead .now) _ (w .0 .taken))
@@ -71,8 +73,8 @@ loop-again c =
 returns-2 : tie.Need-returns-2 Inv-loop μ-loop
 returns-2 c = sym (all-done _ _ _ (c .loop-test .left)) ∙ c .before .loop .inv
 
-pub place-links-right-spec : {M : Type 1} → statement M
-place-links-right-spec =
+pub links-due-spec : {M : Type 1} → statement M
+links-due-spec =
     tie.close
     (tie.spec
     Inv-loop

@@ -1,9 +1,9 @@
--- `laying::mark_places::marks_stand` meets its contract.
+-- `laying::mark_places::marks_as_laid` meets its contract.
 -- Assumes nothing.
 use borrow.Author.Needs.{needs}
 use Rattle.laying.proofs.MarkTests.{against-draft}
-use Rattle.laying.proofs.mark_places.marks_stand.Statement.{statement}
-use Rattle.laying.proofs.mark_places.marks_stand.Tie as tie
+use Rattle.laying.proofs.mark_places.marks_as_laid.Statement.{statement}
+use Rattle.laying.proofs.mark_places.marks_as_laid.Tie as tie
 
 lay-requires : tie.Need-lay-requires
 lay-requires c κs = search needs
@@ -22,5 +22,5 @@ returns c =
     let laid = c .before .before .before .before .before .before in
     against-draft _ _ (laid .before .before .before .before .before .before .before .before .args .marks .now) _ _ (laid .lay .ensures) (c .same-words .ensures)
 
-pub marks-stand-spec : {M : Type 1} → statement M
-marks-stand-spec = tie.close (tie.spec lay-requires same-words-requires same-length same-length-2 returns)
+pub marks-as-laid-spec : {M : Type 1} → statement M
+marks-as-laid-spec = tie.close (tie.spec lay-requires same-words-requires same-length same-length-2 returns)

@@ -1,4 +1,4 @@
--- `laying::mark_places::fences_right` meets its contract. The loop's invariant: the fences of the places from here on are right exactly when all are.
+-- `laying::mark_places::fences_at` meets its contract. The loop's invariant: the fences of the places from here on are right exactly when all are.
 -- Assumes nothing.
 use Prim.Native.Nat.{_+_, _-_, _≤_}
 use native.Mathlib.Omega.{arith}
@@ -7,14 +7,14 @@ use borrow.Author.Needs.{needs}
 use borrow.Author.Tests.{not-true, not-false}
 use Rattle.rules.specs.Lists.{allFrom}
 use Rattle.rules.proofs.Lists.{all-stopped, all-onward, all-done}
-use Rattle.laying.specs.MarkPlaces.{fencesAt}
-use Rattle.laying.proofs.mark_places.fences_right.Statement.{statement}
-use Rattle.laying.proofs.mark_places.fences_right.Tie as tie
+use Rattle.laying.specs.MarkPlaces.{placeFencesAt, fencesAt}
+use Rattle.laying.proofs.mark_places.fences_at.Statement.{statement}
+use Rattle.laying.proofs.mark_places.fences_at.Tie as tie
 use Rattle.store.specs.Places.{inUse}
 
 abbrev Inv-loop : tie.InvT-loop
 Inv-loop nodes starts in-use place₀ place =
-    (1 ≤ place) × (allFrom (fencesAt nodes starts) place (inUse nodes + 1 - place) ≡ allFrom (fencesAt nodes starts) 1 (inUse nodes))
+    (1 ≤ place) × (allFrom (placeFencesAt nodes starts) place (inUse nodes + 1 - place) ≡ fencesAt nodes starts)
 
 abbrev μ-loop : tie.MeasureT-loop
 μ-loop nodes starts in-use place₀ place = inUse nodes + 1 - place
@@ -23,18 +23,19 @@ node-word-requires : tie.Need-node-word-requires Inv-loop μ-loop
 node-word-requires c κs = search needs
 
 loop-holds : tie.Need-loop-holds Inv-loop μ-loop
+unfolding fencesAt
 loop-holds c =
     let nodes = c .before .before .before .args .nodes .now in
     let all-left : inUse nodes + 1 - 1 ≡ inUse nodes = omega arith in
-    (omega arith, ap (allFrom (fencesAt nodes _) 1) all-left)
+    (omega arith, ap (allFrom (placeFencesAt nodes _) 1) all-left)
 
-place-fences-right-requires : tie.Need-place-fences-right-requires Inv-loop μ-loop
-place-fences-right-requires c κs = search needs
+place-fences-at-requires : tie.Need-place-fences-at-requires Inv-loop μ-loop
+place-fences-at-requires c κs = search needs
 
 returns : tie.Need-returns Inv-loop μ-loop
 returns c =
-    let wrong = sym (c .before .place-fences-right .ensures) ∙ not-true _ (c .if1 .taken) in
-    sym (all-stopped (fencesAt _ _) _ _ (omega arith) wrong) ∙ c .before .before .before .loop .inv .1
+    let wrong = sym (c .before .place-fences-at .ensures) ∙ not-true _ (c .if1 .taken) in
+    sym (all-stopped (placeFencesAt _ _) _ _ (omega arith) wrong) ∙ c .before .before .before .loop .inv .1
 
 add-place : tie.Need-add-place Inv-loop μ-loop
 add-place c = search needs
@@ -44,23 +45,23 @@ loop-less c = search needs
 
 loop-again : tie.Need-loop-again Inv-loop μ-loop
 loop-again c =
-    let right = sym (c .before .place-fences-right .ensures) ∙ not-false _ (c .if1 .left) in
-    (omega arith, sym (all-onward (fencesAt _ _) _ _ (omega arith) right) ∙ c .before .before .before .loop .inv .1)
+    let right = sym (c .before .place-fences-at .ensures) ∙ not-false _ (c .if1 .left) in
+    (omega arith, sym (all-onward (placeFencesAt _ _) _ _ (omega arith) right) ∙ c .before .before .before .loop .inv .1)
 
 returns-2 : tie.Need-returns-2 Inv-loop μ-loop
 returns-2 c =
     let past : inUse (c .before .before .before .before .before .args .nodes .now) + 1 ≤ c .before .loop .place = omega arith in
-    sym (all-done (fencesAt _ _) _ _ past) ∙ c .before .loop .inv .1
+    sym (all-done (placeFencesAt _ _) _ _ past) ∙ c .before .loop .inv .1
 
-pub fences-right-spec : {M : Type 1} → statement M
-fences-right-spec =
+pub fences-at-spec : {M : Type 1} → statement M
+fences-at-spec =
     tie.close
     (tie.spec
     Inv-loop
     μ-loop
     node-word-requires
     loop-holds
-    place-fences-right-requires
+    place-fences-at-requires
     returns
     add-place
     loop-less

@@ -1,4 +1,4 @@
--- `laying::mark_places::place_fences_right` meets its contract. The loop's invariant: the fences from here on are right exactly when all ten are.
+-- `laying::mark_places::place_fences_at` meets its contract. The loop's invariant: the fences from here on are right exactly when all ten are.
 -- Assumes nothing.
 use Prim.Native.Nat.{suc, _-_, _+_, _*_, _≤_, _<_}
 use native.Mathlib.Omega.{arith}
@@ -8,14 +8,13 @@ use borrow.Author.Tests.{eq-eqb, ne-eqb}
 use Rattle.rules.specs.Lists.{allFrom}
 use Rattle.rules.specs.Staircase.{slotsPerNode, slotNumber}
 use Rattle.rules.proofs.Lists.{all-stopped, all-onward, all-done}
-use Rattle.laying.specs.MarkPlaces.{fencesAt}
-use Rattle.laying.proofs.MarkTests.{fenceAt}
-use Rattle.laying.proofs.mark_places.place_fences_right.Statement.{statement}
-use Rattle.laying.proofs.mark_places.place_fences_right.Tie as tie
+use Rattle.laying.specs.MarkPlaces.{fenceAt, placeFencesAt}
+use Rattle.laying.proofs.mark_places.place_fences_at.Statement.{statement}
+use Rattle.laying.proofs.mark_places.place_fences_at.Tie as tie
 
 abbrev Inv-loop : tie.InvT-loop
 Inv-loop nodes starts place first slot₀ slot =
-    allFrom (fenceAt nodes starts place) slot (suc slotsPerNode - slot) ≡ fencesAt nodes starts place
+    allFrom (fenceAt nodes starts place) slot (suc slotsPerNode - slot) ≡ placeFencesAt nodes starts place
 
 abbrev μ-loop : tie.MeasureT-loop
 μ-loop nodes starts place first slot₀ slot = suc slotsPerNode - slot
@@ -27,7 +26,7 @@ mul-first : tie.Need-mul-first Inv-loop μ-loop
 mul-first c = search needs
 
 loop-holds : tie.Need-loop-holds Inv-loop μ-loop
-unfolding fencesAt
+unfolding placeFencesAt
 loop-holds c = refl
 
 add-node-word : tie.Need-add-node-word Inv-loop μ-loop
@@ -77,8 +76,8 @@ returns-2 c =
     let past : suc slotsPerNode ≤ c .before .loop .slot = omega arith in
     sym (all-done _ _ _ past) ∙ c .before .loop .inv
 
-pub place-fences-right-spec : {M : Type 1} → statement M
-place-fences-right-spec =
+pub place-fences-at-spec : {M : Type 1} → statement M
+place-fences-at-spec =
     tie.close
     (tie.spec
     Inv-loop
