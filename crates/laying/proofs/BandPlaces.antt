@@ -24,7 +24,7 @@ use Rattle.store.specs.LaidBands.{laidBandField, laidBands}
 use Rattle.store.proofs.SaidBands.{saysLive, band-by-place, in-said-bands}
 use Rattle.store.proofs.LaidBands.{laid-bands-length, laid-band-word, laid-band-field}
 use Rattle.laying.specs.Zeros.{zerosBetween}
-use Rattle.laying.specs.BandPlaces.{bandPlaceFree, bandPlaceLive, bandPlaceRight, bandPlacesRight}
+use Rattle.laying.specs.BandPlaces.{bandPlaceFree, bandPlaceTaken, bandPlaceRight, bandPlacesRight}
 use Rattle.laying.proofs.FreeWords.{zeros-mean}
 
 -- a word of 0 or 1 is told by whether it says yes
@@ -70,8 +70,8 @@ module _ (bands : List ℕ) (b : ℕ) where
     reserve-free : (bandField bands b reserveField ≡ 0) × (bandField bands b (suc reserveField) ≡ 0)
     band-right : BandRight (saidBand bands b)
 
-  live-means : Means (bandPlaceLive bands b) LivePlace
-  unfolding bandPlaceLive
+  live-means : Means (bandPlaceTaken bands b) LivePlace
+  unfolding bandPlaceTaken
   live-means =
       reworded
       (and-means (eq-means (bandField bands b liveField) 1)

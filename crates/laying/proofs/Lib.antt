@@ -8,7 +8,7 @@
 --   MarkPlaces     fences, marks in use and marks
 --   NodesLaid      the node words, by node places, links and fences
 --   TestedIsSound  all tests pass exactly when memory is sound
--- As the code goes through them: EndSteps, LinkSteps, MarkTests, and TestsInOrder of all.
+-- As the code goes through them: EndSteps, LinkSteps, MarkSteps, and TestsInOrder of all.
 pub mod FreeWords
 pub mod BandPlaces
 pub mod NodePlaces
@@ -20,5 +20,5 @@ pub mod NodesLaid
 pub mod TestedIsSound
 pub mod EndSteps
 pub mod LinkSteps
-pub mod MarkTests
+pub mod MarkSteps
 pub mod TestsInOrder

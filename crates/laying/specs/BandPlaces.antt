@@ -17,8 +17,8 @@ unfoldable pub bandPlaceFree : List ℕ → ℕ → Bool
 bandPlaceFree bands b = zerosBetween (b * bandPlaceWords) (b * bandPlaceWords + bandPlaceWords) bands
 
 -- it has a right band: live is 1, each closed word 0 or 1, the two words after them zeros, and the band is right by 2 to 6
-unfoldable pub bandPlaceLive : List ℕ → ℕ → Bool
-bandPlaceLive bands b =
+unfoldable pub bandPlaceTaken : List ℕ → ℕ → Bool
+bandPlaceTaken bands b =
     eqb (bandField bands b liveField) 1
     and leb (bandField bands b lowClosedField) 1
     and leb (bandField bands b highClosedField) 1
@@ -27,7 +27,7 @@ bandPlaceLive bands b =
 
 -- the place of number b is free, or has a right band
 unfoldable pub bandPlaceRight : List ℕ → ℕ → Bool
-bandPlaceRight bands b = bandPlaceFree bands b or bandPlaceLive bands b
+bandPlaceRight bands b = bandPlaceFree bands b or bandPlaceTaken bands b
 
 -- each of the 1,024 places is free, or has a right band
 unfoldable pub bandPlacesRight : List ℕ → Bool

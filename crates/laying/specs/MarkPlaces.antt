@@ -50,9 +50,9 @@ unfoldable pub fencesAt : List ℕ → List ℕ → Bool
 fencesAt nodes starts = allFrom (placeFencesAt nodes starts) 1 (inUse nodes)
 
 -- the marks that the bands ask for, laid from these starts into a draft
-unfoldable pub marksLaid : List ℕ → List ℕ → List ℕ → List ℕ → List ℕ
-marksLaid bands nodes starts draft = withMarks (laidOf starts draft) (staircases bands nodes) .marks
+unfoldable pub draftLaid : List ℕ → List ℕ → List ℕ → List ℕ → List ℕ
+draftLaid bands nodes starts draft = withMarks (laidOf starts draft) (staircases bands nodes) .marks
 
 -- the mark words are the first of that draft
 unfoldable pub marksAsLaid : List ℕ → List ℕ → List ℕ → List ℕ → List ℕ → Bool
-marksAsLaid bands nodes marks starts draft = sameNumbers marks (take (length marks) (marksLaid bands nodes starts draft))
+marksAsLaid bands nodes marks starts draft = sameNumbers marks (take (length marks) (draftLaid bands nodes starts draft))

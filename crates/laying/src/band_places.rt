@@ -1,7 +1,7 @@
 // The test of the band places.
 ghost use mathlib.Core.Path.{_≡_};
 ghost use Prim.Native.Nat.{_<_, _^_};
-ghost use Rattle.laying.specs.BandPlaces.{bandPlaceFree, bandPlaceLive, bandPlaceRight, bandPlacesRight};
+ghost use Rattle.laying.specs.BandPlaces.{bandPlaceFree, bandPlaceTaken, bandPlaceRight, bandPlacesRight};
 use crate::zeros;
 use hall::Answer;
 
@@ -15,9 +15,9 @@ fn place_free(bands: &[u32], number: usize) -> bool
 }
 
 // Whether the place of a number has a right band.
-fn place_live(bands: &[u32], number: usize) -> bool
+fn place_taken(bands: &[u32], number: usize) -> bool
     requires { ⌜ number < 2 ^ 32 ⌝ }
-    ensures { λ r. ⌜ r ≡ bandPlaceLive (now (bands .entry)) number ⌝ }
+    ensures { λ r. ⌜ r ≡ bandPlaceTaken (now (bands .entry)) number ⌝ }
 {
     let first = number * store::BAND_PLACE_WORDS;
     let live = store::band_word(bands, number, store::LIVE) == 1;
@@ -43,7 +43,7 @@ fn place_right(bands: &[u32], number: usize) -> bool
     if place_free(bands, number) {
         return true;
     }
-    place_live(bands, number)
+    place_taken(bands, number)
 }
 
 // Whether each of the 1,024 places is free or has a right band.

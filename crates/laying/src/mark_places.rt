@@ -107,7 +107,7 @@ fn marks_right_with(
     if !marks_in_use_right(nodes, marks.len(), sum) {
         return false;
     }
-    marking::start(cursors);
+    marking::to_starts(cursors);
     if !fences_at(nodes, cursors) {
         return false;
     }

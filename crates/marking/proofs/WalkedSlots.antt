@@ -23,7 +23,7 @@ use Rattle.store.specs.SaidProfile.{saidBand}
 use Rattle.search.specs.PlaceOf.{placeOf}
 use Rattle.search.proofs.PlaceSteps.{place-in-use, places-in-use-counted}
 use Rattle.marking.specs.WordWalk.{leadsWithin, stairBelow, stairAt, stairTo, visited, walkOn, walked, slotsOf}
-use Rattle.marking.specs.Staircases.{mostSlots}
+use Rattle.marking.specs.Staircases.{mostVisited}
 
 -- ---- words stored one after the other
 
@@ -85,7 +85,7 @@ module _ (nodes : List ℕ) (b : Band) where
           rw (length-append (visited nodes b here stair) (walkOn nodes b m (stairTo nodes here stair)))
           (omega (arith, visited-two here stair, h (stairTo nodes here stair)))
 
-  pub walked-within : inUse nodes ≤ mostNodes → length (walked nodes b) ≤ mostSlots
+  pub walked-within : inUse nodes ≤ mostNodes → length (walked nodes b) ≤ mostVisited
   unfolding walked
   walked-within h = omega (arith, walk-on-two (inUse nodes) (placeOf nodes (b .low)))
 
@@ -132,8 +132,8 @@ module _ (nodes : List ℕ) (b : Band) where
     none-to-write e = (rw (e, walk-ends) at (mid .written), omega (arith, rw (e, walk-ends) at (mid .counted)))
 
     -- .. and the slots stand in the first words
-    pub all-written : inUse nodes ≤ mostNodes → mostSlots ≤ length old → here ≡ 0
-        → (count ≡ length (walked nodes b)) × (take count slots ≡ walked nodes b) × (count ≤ mostSlots)
+    pub all-written : inUse nodes ≤ mostNodes → mostVisited ≤ length old → here ≡ 0
+        → (count ≡ length (walked nodes b)) × (take count slots ≡ walked nodes b) × (count ≤ mostVisited)
     all-written few long e =
         let ends = none-to-write e in
         let within = walked-within few in

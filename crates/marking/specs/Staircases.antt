@@ -20,5 +20,5 @@ unfoldable pub staircases : List ℕ → List ℕ → List Mark
 staircases bands nodes = staircasesFrom bands nodes 0 bandPlaces
 
 -- the most slots that one walk visits: two at each node
-abbrev pub mostSlots : ℕ
-mostSlots = 4096
+abbrev pub mostVisited : ℕ
+mostVisited = 4096

@@ -6,4 +6,4 @@ mod walking;
 
 pub use counting::count;
 pub use putting::lay;
-pub use starting::start;
+pub use starting::to_starts;

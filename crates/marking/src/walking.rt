@@ -10,12 +10,12 @@ ghost use Rattle.rules.specs.Room.{mostNodes};
 ghost use Rattle.hall.specs.SaidBand.{said};
 ghost use Rattle.store.specs.Places.{inUse};
 ghost use Rattle.marking.specs.WordWalk.{leadsWithin, stairAt, stairTo, visited, walked, slotsOf};
-ghost use Rattle.marking.specs.Staircases.{mostSlots};
+ghost use Rattle.marking.specs.Staircases.{mostVisited};
 use hall::Band;
 use hall::Key;
 
 // The most slots that one walk visits.
-pub(crate) const MOST_SLOTS: usize = 4096;
+pub(crate) const MOST_VISITED: usize = 4096;
 
 // Whether the link leads to a later place in use, whose key is not above the high end.
 fn leads_within(nodes: &[u32], here: usize, lane: usize, high: Key) -> bool
@@ -106,11 +106,11 @@ fn visit(
 
 // Writes the slots of one band, and answers how many they are.
 fn walk(nodes: &[u32], band: Band, slots: &mut [u32]) -> usize
-    requires { ⌜ (inUse (now nodes) ≤ mostNodes) × (mostSlots ≤ length (now slots)) ⌝ }
+    requires { ⌜ (inUse (now nodes) ≤ mostNodes) × (mostVisited ≤ length (now slots)) ⌝ }
     ensures { λ r. ⌜
         (r ≡ length (walked (now (nodes .entry)) (said band)))
         × (take r (now (slots .exit)) ≡ walked (now (nodes .entry)) (said band))
-        × (r ≤ mostSlots)
+        × (r ≤ mostVisited)
         ⌝ }
 {
     let mut count = 0;
@@ -130,12 +130,12 @@ pub(crate) fn slots_of(bands: &[u32], nodes: &[u32], number: usize, slots: &mut 
     requires { ⌜
         (number < 2 ^ 32)
         × (inUse (now nodes) ≤ mostNodes)
-        × (mostSlots ≤ length (now slots))
+        × (mostVisited ≤ length (now slots))
         ⌝ }
     ensures { λ r. ⌜
         (r ≡ length (slotsOf (now (bands .entry)) (now (nodes .entry)) number))
         × (take r (now (slots .exit)) ≡ slotsOf (now (bands .entry)) (now (nodes .entry)) number)
-        × (r ≤ mostSlots)
+        × (r ≤ mostVisited)
         ⌝ }
 {
     if store::is_live(bands, number) {

@@ -1,7 +1,7 @@
 -- `laying::mark_places::marks_as_laid` meets its contract.
 -- Assumes nothing.
 use borrow.Author.Needs.{needs}
-use Rattle.laying.proofs.MarkTests.{against-draft}
+use Rattle.laying.proofs.MarkSteps.{against-draft}
 use Rattle.laying.proofs.mark_places.marks_as_laid.Statement.{statement}
 use Rattle.laying.proofs.mark_places.marks_as_laid.Tie as tie
 

@@ -10,7 +10,7 @@ use lib.ListN.{length, length-replicate}
 use Rattle.rules.specs.Room.{mostMarks}
 use Rattle.marking.proofs.Counted.{zeros-have-room, counted-up-to}
 use Rattle.laying.specs.MarkPlaces.{marksInUseRight}
-use Rattle.laying.proofs.MarkTests.{in-use-wrong, counts-fit, fences-wrong, marks-left}
+use Rattle.laying.proofs.MarkSteps.{in-use-wrong, counts-fit, fences-wrong, marks-left}
 use Rattle.laying.proofs.mark_places.marks_right_with.Statement.{statement}
 use Rattle.laying.proofs.mark_places.marks_right_with.Tie as tie
 
@@ -39,8 +39,8 @@ in-use-passed : (c : tie.Else1)
     ≡ true
 in-use-passed c = sym (c .before .marks-in-use-right .ensures) ∙ not-false _ (c .if1 .left)
 
-start-requires : tie.Need-start-requires
-start-requires c κs =
+to-starts-requires : tie.Need-to-starts-requires
+to-starts-requires c κs =
     let counted = c .before .before .before .before .before in
     let start = counted .before .before .before .before .before .before .before in
     let args = start .args in
@@ -61,7 +61,7 @@ returns-2 c =
     let in-use = started .before .before in
     let counted = in-use .before .before .before .before in
     let pre = counted .before .before .before .before .before .before .before .pre in
-    sym (fences-wrong _ _ _ (counted-up-to _ _ _ (pre .2) (counted .count .ensures)) (in-use-passed in-use) (omega arith) (started .start .ensures)
+    sym (fences-wrong _ _ _ (counted-up-to _ _ _ (pre .2) (counted .count .ensures)) (in-use-passed in-use) (omega arith) (started .to-starts .ensures)
     (sym (c .before .fences-at .ensures) ∙ not-true _ (c .if2 .taken)))
 
 marks-as-laid-requires : tie.Need-marks-as-laid-requires
@@ -84,7 +84,7 @@ returns-3 c =
     let in-use = started .before .before in
     let counted = in-use .before .before .before .before in
     let pre = counted .before .before .before .before .before .before .before .pre in
-    marks-left _ _ _ (counted-up-to _ _ _ (pre .2) (counted .count .ensures)) (in-use-passed in-use) (omega arith) (started .start .ensures) (pre .1) (pre .4)
+    marks-left _ _ _ (counted-up-to _ _ _ (pre .2) (counted .count .ensures)) (in-use-passed in-use) (omega arith) (started .to-starts .ensures) (pre .1) (pre .4)
     (sym (fenced .before .fences-at .ensures) ∙ not-false _ (fenced .if2 .left))
     (c .before .before .before .before .marks-as-laid .ensures)
 
@@ -96,7 +96,7 @@ marks-right-with-spec =
     marks-in-use-right-requires
     same-length
     returns
-    start-requires
+    to-starts-requires
     fences-at-requires
     same-length-2
     returns-2

@@ -1,4 +1,4 @@
--- `laying::band_places::place_live` meets its contract: its tests are those of a place with a right band.
+-- `laying::band_places::place_taken` meets its contract: its tests are those of a place with a right band.
 -- Assumes nothing.
 use Prim.Native.Nat.{ℕ}
 use mathlib.Core.Path.{_≡_, refl, sym, ap, _∙_}
@@ -14,9 +14,9 @@ use Rattle.hall.specs.Says.{answerSays}
 use Rattle.hall.specs.declared.answers.Answer.{Answer}
 use Rattle.hall.specs.declared.answers.Refusal.{Refusal}
 use Rattle.hall.proofs.OneToOne.{no-refusal-says-0}
-use Rattle.laying.specs.BandPlaces.{bandPlaceLive}
-use Rattle.laying.proofs.band_places.place_live.Statement.{statement}
-use Rattle.laying.proofs.band_places.place_live.Tie as tie
+use Rattle.laying.specs.BandPlaces.{bandPlaceTaken}
+use Rattle.laying.proofs.band_places.place_taken.Statement.{statement}
+use Rattle.laying.proofs.band_places.place_taken.Tie as tie
 
 -- code joins from the left, the test from the right
 joined : (a b c d e : Bool) → (((a and b) and c) and d) and e ≡ a and b and c and d and e
@@ -68,7 +68,7 @@ enum-told-2 : tie.Need-enum-told-2
 enum-told-2 c = search needs
 
 returns : tie.Need-returns
-unfolding bandPlaceLive
+unfolding bandPlaceTaken
 returns c =
     let says = c .before .fault .ensures ∙ ap bandFault (c .before .before .band-at .ensures) in
     both
@@ -82,8 +82,8 @@ returns c =
     (⊎-elim (λ w. accepted _ says (w .1 .given .1) (w .2)) (λ w. refused _ says (w .1 .given .0 .0) (w .1 .given .1) (w .2)) (c .match .came))
     ∙ joined _ _ _ _ _
 
-pub place-live-spec : {M : Type 1} → statement M
-place-live-spec =
+pub place-taken-spec : {M : Type 1} → statement M
+place-taken-spec =
     tie.close
     (tie.spec
     mul-first

@@ -26,7 +26,7 @@ use Rattle.marking.proofs.InSlots.{slots-count}
 use Rattle.marking.proofs.CountsAndStarts.{countsOf, counts-at-most, starts-are}
 use Rattle.marking.proofs.BucketLaw.{laid-in-slots}
 use Rattle.marking.proofs.StaircasesInRange.{staircases-in-range}
-use Rattle.laying.specs.MarkPlaces.{marksInUseRight, fenceRight, fencesRight, marksStand, marksRight, placeFencesAt, fencesAt, marksLaid, marksAsLaid}
+use Rattle.laying.specs.MarkPlaces.{marksInUseRight, fenceRight, fencesRight, marksStand, marksRight, placeFencesAt, fencesAt, draftLaid, marksAsLaid}
 
 -- ---- mark words and the draft
 
@@ -34,7 +34,7 @@ use Rattle.laying.specs.MarkPlaces.{marksInUseRight, fenceRight, fencesR
 pub against-draft : (bands nodes marks starts draft : List ℕ) {cursors laid : List ℕ} {r : Bool}
     → laidOf cursors laid ≡ withMarks (laidOf starts draft) (staircases bands nodes)
     → r ≡ sameNumbers marks (take (length marks) laid) → r ≡ marksAsLaid bands nodes marks starts draft
-unfolding marksAsLaid marksLaid
+unfolding marksAsLaid draftLaid
 against-draft bands nodes marks starts draft lays same = same ∙ ap (λ l. sameNumbers marks (take (length marks) (l .marks))) lays
 
 -- ---- the marks that the bands ask for, counted
@@ -94,9 +94,9 @@ module _ (bands nodes marks : List ℕ) {k sum : ℕ} {cursors : List ℕ}
 
       -- the draft has the marks slot by slot, and zeros after them
       draft-laid : length marks ≤ mostMarks → {draft : List ℕ} → draft ≡ replicate mostMarks 0
-          → take (length marks) (marksLaid bands nodes starts draft)
+          → take (length marks) (draftLaid bands nodes starts draft)
           ≡ padded (length marks) (inSlots 0 (inUse nodes * slotsPerNode) (staircases bands nodes))
-      unfolding marksLaid
+      unfolding draftLaid
       draft-laid few {draft} empty =
           let ms : List Mark = staircases bands nodes in
           let slots : ℕ = inUse nodes * slotsPerNode in
