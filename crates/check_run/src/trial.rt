@@ -69,38 +69,20 @@ fn tell_spoiled_bands(bands: &mut [u32], nodes: &mut [u32], marks: &mut [u32]) {
     telling::tell_tally(b"bands", both);
 }
 
-// Spoils node words, so far apart.
-fn tell_spoiled_nodes(apart: usize, bands: &mut [u32], nodes: &mut [u32], marks: &mut [u32])
+// Spoils words of a slice that has so many, so far apart.
+fn tell_spoiled_words(
+    name: &[u8],
+    slice: Slice,
+    length: usize,
+    apart: usize,
+    bands: &mut [u32],
+    nodes: &mut [u32],
+    marks: &mut [u32],
+)
     requires { ⌜ 1 ≤ apart ⌝ }
 {
-    let tally = spoiling::spoil(
-        Slice::Nodes,
-        0,
-        nodes.len(),
-        apart,
-        Tally::new(),
-        bands,
-        nodes,
-        marks,
-    );
-    telling::tell_tally(b"nodes", tally);
-}
-
-// Spoils mark words, so far apart.
-fn tell_spoiled_marks(apart: usize, bands: &mut [u32], nodes: &mut [u32], marks: &mut [u32])
-    requires { ⌜ 1 ≤ apart ⌝ }
-{
-    let tally = spoiling::spoil(
-        Slice::Marks,
-        0,
-        marks.len(),
-        apart,
-        Tally::new(),
-        bands,
-        nodes,
-        marks,
-    );
-    telling::tell_tally(b"marks", tally);
+    let tally = spoiling::spoil(slice, 0, length, apart, Tally::new(), bands, nodes, marks);
+    telling::tell_tally(name, tally);
 }
 
 // Spoils words of each slice.
@@ -108,8 +90,24 @@ fn tell_spoiled(apart: usize, bands: &mut [u32], nodes: &mut [u32], marks: &mut 
     requires { ⌜ 1 ≤ apart ⌝ }
 {
     tell_spoiled_bands(bands, nodes, marks);
-    tell_spoiled_nodes(apart, bands, nodes, marks);
-    tell_spoiled_marks(apart, bands, nodes, marks);
+    tell_spoiled_words(
+        b"nodes",
+        Slice::Nodes,
+        nodes.len(),
+        apart,
+        bands,
+        nodes,
+        marks,
+    );
+    tell_spoiled_words(
+        b"marks",
+        Slice::Marks,
+        marks.len(),
+        apart,
+        bands,
+        nodes,
+        marks,
+    );
 }
 
 // Asks with each slice a word shorter and a word longer. Of marks each length up to 16,384 makes a room, so there a word that is not in use may
