@@ -12,7 +12,7 @@ use Rattle.rules.proofs.Lists.{all-from-means, rest-follows}
 use Rattle.rules.proofs.Means.{Means, reworded, eq-means}
 use Rattle.store.specs.Places.{nodeField, linkField, header, inUse}
 use Rattle.store.specs.SaidProfile.{saidNode, saidNodes}
-use Rattle.store.specs.LaidNodes.{nextPlace}
+use Rattle.store.specs.LaidNodes.{nextPlace, linkOf}
 use Rattle.store.proofs.SaidNodes.{said-here, said-in-use, said-at}
 use Rattle.laying.specs.Links.{linkedLanes, linkDueAt, linkRight, placeLinksRight, linksRight}
 use Rattle.laying.proofs.NextPlaces.{node-lanes, next-among-said}
@@ -21,7 +21,7 @@ use Rattle.laying.proofs.NextPlaces.{node-lanes, next-among-said}
 pub record LinksLaid (nodes : List ℕ) : Type 0 where
   pub first-link : (i : ℕ) → i < lanes → nodeField nodes header (linkField i) ≡ nextPlace i 1 (saidNodes nodes)
   pub link : (j : ℕ) (n : Node) (rest : List Node) → drop j (saidNodes nodes) ≡ n ∷ rest → (i : ℕ) → i < lanes
-      → nodeField nodes (suc j) (linkField i) ≡ cond (takesPart i n) (nextPlace i (suc (suc j)) rest) 0
+      → nodeField nodes (suc j) (linkField i) ≡ linkOf (suc j) n rest i
 
 module _ (nodes : List ℕ) where
   -- the links of a place are those that are due

@@ -1,7 +1,7 @@
 -- The test of fences and marks: where the nodes are linked and the profile that the words say stands, it passes exactly when there is room for the
 -- profile's marks, the header counts them, the fences are theirs and the mark words are the profile's.
 -- Assumes nothing.
-use Prim.Native.Nat.{ℕ, zero, suc, _+_, _-_, _≤_}
+use Prim.Native.Nat.{ℕ, zero, suc, _-_, _≤_}
 use mathlib.Core.Path.{_≡_, sym, _∙_}
 use mathlib.Core.List.{List, _∷_}
 use native.Mathlib.Omega.{arith}
@@ -15,8 +15,8 @@ use Rattle.rules.proofs.Lists.{EachLane, all-from-means, same-numbers-means}
 use Rattle.rules.proofs.SoundMemory.{Standing}
 use Rattle.store.specs.Places.{nodeField, fenceField, header, marksInUseField, inUse}
 use Rattle.store.specs.SaidProfile.{saidNodes, saidBy}
-use Rattle.store.specs.LaidMarks.{slotsMarks, laidMarks}
-use Rattle.store.proofs.LaidMarks.{marksBefore}
+use Rattle.store.specs.LaidMarks.{laidMarks}
+use Rattle.store.proofs.LaidMarks.{fenceOf}
 use Rattle.store.proofs.SaidNodes.{said-nodes-length, said-here, said-in-use}
 use Rattle.marking.specs.Buckets.{Mark, startOf}
 use Rattle.marking.specs.Staircases.{staircases}
@@ -29,7 +29,7 @@ abbrev pub FencesLaid : List ℕ → List ℕ → Type 0
 FencesLaid bands nodes =
     (j : ℕ) (n : Node) (rest : List Node) → drop j (saidNodes nodes) ≡ n ∷ rest → (s : ℕ) → s ≤ slotsPerNode
     → nodeField nodes (suc j) (fenceField s)
-    ≡ length (marksBefore (saidBy bands nodes) j (saidNodes nodes)) + length (slotsMarks (saidBy bands nodes) n rest 0 s)
+    ≡ fenceOf (saidBy bands nodes) j n rest s
 
 pub record MarksLaid (bands nodes marks : List ℕ) : Type 0 where
   -- there is room for the profile's marks, and the header counts them
@@ -65,7 +65,7 @@ module _ (bands nodes marks : List ℕ) (linked : Linked nodes) (stands : Standi
   -- the start of a slot is where its fence is laid
   start-laid : (j : ℕ) (n : Node) (rest : List Node) → drop j (saidNodes nodes) ≡ n ∷ rest → (s : ℕ) → s ≤ slotsPerNode
       → startOf (slotNumber (suc j - 1) s) asked
-      ≡ length (marksBefore (saidBy bands nodes) j (saidNodes nodes)) + length (slotsMarks (saidBy bands nodes) n rest 0 s)
+      ≡ fenceOf (saidBy bands nodes) j n rest s
   start-laid j n rest at s l =
       let same : suc j - 1 ≡ j = omega arith in rw same (slot-starts bands nodes linked stands j n rest at s l)
 

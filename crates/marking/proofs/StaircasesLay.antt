@@ -9,23 +9,23 @@ use mathlib.Core.List.{List, _∷_, _++_}
 use lib.ListN.{length, drop}
 use Rattle.rules.specs.Lists.{addIf, onlyIf}
 use Rattle.rules.specs.HallLine.{Band}
-use Rattle.rules.specs.NodesLanesEdges.{Node, lanes}
+use Rattle.rules.specs.NodesLanesEdges.{Node}
 use Rattle.rules.specs.Marks.{marksInUse}
 use Rattle.rules.specs.Staircase.{slotsPerNode, slotNumber, walk}
 use Rattle.rules.proofs.Lists.{Each}
 use Rattle.rules.proofs.SoundMemory.{Standing}
 use Rattle.store.specs.Sizes.{bandPlaces}
 use Rattle.store.specs.SaidProfile.{saidBand, saidBandsFrom, saidBands, saidNodes, saidBy}
-use Rattle.store.specs.LaidMarks.{slotMarks, slotsMarks, laidMarksFrom}
+use Rattle.store.specs.LaidMarks.{laidMarksFrom}
 use Rattle.store.proofs.SaidBands.{saysLive}
-use Rattle.store.proofs.LaidMarks.{marksBefore}
+use Rattle.store.proofs.LaidMarks.{fenceOf}
 use Rattle.marking.specs.WordWalk.{walked, slotsOf}
-use Rattle.marking.specs.Buckets.{inSlot, inSlots, startOf}
+use Rattle.marking.specs.Buckets.{inSlots, startOf}
 use Rattle.marking.specs.Staircases.{marksIn, staircasesFrom, staircases}
 use Rattle.marking.proofs.Linked.{Linked}
 use Rattle.marking.proofs.WalkOnLinked.{walk-on-linked}
 use Rattle.marking.proofs.BandMarks.{marksAlong}
-use Rattle.marking.proofs.WalkMarks.{walkMarks, slot-of-walks, walks-count, all-of-walks, start-of-walks}
+use Rattle.marking.proofs.WalkMarks.{walkMarks, walks-count, all-of-walks, start-of-walks}
 
 -- going through the numbers, a live one brings the marks of its band, and another none
 staircases-from : (bands nodes : List ℕ) (slots : Band → List ℕ) (b m : ℕ)
@@ -51,11 +51,6 @@ module _ (bands nodes : List ℕ) (linked : Linked nodes) (stands : Standing (sa
       staircases-from bands nodes (walk (saidNodes nodes)) 0 bandPlaces
       (λ b i. walk-on-linked nodes linked b (stands .ends-stand b i .0))
 
-  -- in the slot of a node or an edge they are the numbers that the rule marks there
-  pub slot-numbers : (j : ℕ) (n : Node) (rest : List Node) → drop j (saidNodes nodes) ≡ n ∷ rest → (s : ℕ) → s ≤ lanes
-      → inSlot (slotNumber j s) (staircases bands nodes) ≡ slotMarks (saidBy bands nodes) n rest s
-  slot-numbers j n rest at s l = rw staircases-by-band (slot-of-walks (saidBy bands nodes) stands j n rest at s l)
-
   -- they are as many as the marks in use
   pub marks-count : length (staircases bands nodes) ≡ marksInUse (saidBy bands nodes)
   marks-count = rw staircases-by-band (walks-count (saidBy bands nodes) stands)
@@ -68,5 +63,5 @@ module _ (bands nodes : List ℕ) (linked : Linked nodes) (stands : Standing (sa
   -- a slot's numbers start where its fence says
   pub slot-starts : (j : ℕ) (n : Node) (rest : List Node) → drop j (saidNodes nodes) ≡ n ∷ rest → (s : ℕ) → s ≤ slotsPerNode
       → startOf (slotNumber j s) (staircases bands nodes)
-      ≡ length (marksBefore (saidBy bands nodes) j (saidNodes nodes)) + length (slotsMarks (saidBy bands nodes) n rest 0 s)
+      ≡ fenceOf (saidBy bands nodes) j n rest s
   slot-starts j n rest at s l = rw staircases-by-band (start-of-walks (saidBy bands nodes) stands j n rest at s l)

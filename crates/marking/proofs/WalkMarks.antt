@@ -17,7 +17,7 @@ use Rattle.rules.proofs.SoundMemory.{Standing}
 use Rattle.rules.proofs.Theory.MarkedSlots.{SlotMarked, out-means}
 use Rattle.rules.proofs.Theory.Staircase.{walk-visits, walk-visits-node, walk-ascends, marks-in-use-by-walks}
 use Rattle.store.specs.LaidMarks.{slotMarks, slotsMarks, nodeMarks, laidMarksFrom}
-use Rattle.store.proofs.LaidMarks.{marksBefore}
+use Rattle.store.proofs.LaidMarks.{marksBefore, fenceOf}
 use Rattle.marking.specs.Buckets.{Mark, inSlot, inSlots, startOf}
 use Rattle.marking.proofs.InSlots.{row-apart}
 use Rattle.marking.proofs.BandMarks.{marksAlong, numbers-in-slot, along-count}
@@ -79,7 +79,7 @@ module _ (p : Profile) (stands : Standing p) where
         (λ v. subst (λ ms. SlotMarked (p .nodes) b ms (suc i)) at (visits .0 v))
 
     -- the numbers in a slot are those that the rule marks there ..
-    pub slot-of-walks : (s : ℕ) → s ≤ lanes → inSlot (slotNumber j s) (walkMarks p) ≡ slotMarks p n rest s
+    slot-of-walks : (s : ℕ) → s ≤ lanes → inSlot (slotNumber j s) (walkMarks p) ≡ slotMarks p n rest s
     unfolding walkMarks slotMarks markedOnNode
     slot-of-walks zero l =
         numbers-in-slot (walk (p .nodes)) (slotNumber j 0) (λ b. nodeMarked (p .nodes) b (n .key)) (p .bands) walks-ascend node-visited
@@ -129,6 +129,6 @@ module _ (p : Profile) (stands : Standing p) where
 
     -- .. and after so many its own start
     pub start-of-walks :
-        startOf (slotNumber j s) (walkMarks p) ≡ length (marksBefore p j (p .nodes)) + length (slotsMarks p n rest 0 s)
+        startOf (slotNumber j s) (walkMarks p) ≡ fenceOf p j n rest s
     unfolding startOf
     start-of-walks = ap length before-slot ∙ length-append (marksBefore p j (p .nodes)) (slotsMarks p n rest 0 s)

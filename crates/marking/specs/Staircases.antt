@@ -1,7 +1,8 @@
 -- All marks that the bands of memory ask for: number by number, each band along its staircase.
 -- Assumes nothing.
-use Prim.Native.Nat.{ℕ, zero, suc}
+use Prim.Native.Nat.{ℕ, zero, suc, _*_}
 use mathlib.Core.List.{List, [], _++_, map}
+use Rattle.rules.specs.Room.{mostNodes}
 use Rattle.store.specs.Sizes.{bandPlaces}
 use Rattle.marking.specs.WordWalk.{slotsOf}
 use Rattle.marking.specs.Buckets.{Mark, markOf}
@@ -21,4 +22,4 @@ staircases bands nodes = staircasesFrom bands nodes 0 bandPlaces
 
 -- the most slots that one walk visits: two at each node
 abbrev pub mostVisited : ℕ
-mostVisited = 4096
+mostVisited = 2 * mostNodes

@@ -1,5 +1,5 @@
 -- A band's staircase walked on node words, of any memory: each step follows a link that leads to a later place in use.
--- On words that lay a standing profile it is the walk of the rules (proofs/WalkOnLinked.antt).
+-- On linked words, from a low end at which a node stands, it is the walk of the rules (proofs/WalkOnLinked.antt).
 -- Assumes nothing.
 use Prim.Native.Nat.{ℕ, zero, suc, _-_}
 use mathlib.Core.Bool.{Bool, cond}

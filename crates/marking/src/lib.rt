@@ -1,4 +1,4 @@
-// The marks of a memory's bands: walking one band's staircase, counting marks by slot, and laying them slot by slot.
+// The marks of a memory's bands: walking one band's staircase, counting marks by slot, from counts to starts, and laying each mark in its slot.
 mod counting;
 mod putting;
 mod starting;

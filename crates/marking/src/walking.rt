@@ -15,7 +15,7 @@ use hall::Band;
 use hall::Key;
 
 // The most slots that one walk visits.
-pub(crate) const MOST_VISITED: usize = 4096;
+pub(crate) const MOST_VISITED: usize = 2 * store::MOST_NODES;
 
 // Whether the link leads to a later place in use, whose key is not above the high end.
 fn leads_within(nodes: &[u32], here: usize, lane: usize, high: Key) -> bool

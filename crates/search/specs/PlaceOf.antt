@@ -22,7 +22,8 @@ halfway low high = (low + high) / 2
 abbrev pub keyBelow : List ℕ → ℕ → ℕ → Bool
 keyBelow nodes k i = ltb (nodeField nodes i keyField) k
 
--- low is below k and high is not: at most m times the one halfway takes the place of either, until they stand side by side; then it is high
+-- low stands for a place below k and high for one that is not: at most m times the place halfway becomes the one or the other, until they stand
+-- side by side; then it is high
 abbrev pub halved : List ℕ → ℕ → ℕ → ℕ → ℕ → ℕ
 halved nodes k zero low high = high
 halved nodes k (suc m) low high =

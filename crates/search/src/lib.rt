@@ -1,4 +1,4 @@
-// The stab's search and the readouts' finding, over node and mark words of any memory.
+// The stab's search, and finding a node's place, over node and mark words of any memory.
 mod descent;
 mod finding;
 mod taking;

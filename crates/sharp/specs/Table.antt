@@ -48,6 +48,7 @@ liveBandRows =
     ∷ band 3 highField 49
     ∷ band 3 highField 51
     ∷ band 3 highField 20
+    ∷ band 3 highField 10
     ∷ band 3 highField 2097152
     -- low end closed: the other of 0 and 1, and neither
     ∷ band 1 lowClosedField 0

@@ -92,6 +92,10 @@ marksBefore p zero ms = []
 marksBefore p (suc j) [] = []
 marksBefore p (suc j) (n ∷ rest) = nodeMarks p n rest ++ marksBefore p j rest
 
+-- where fence s of the node with j others before it stands: past the marks of these nodes and of the slots before s
+abbrev pub fenceOf : Profile → ℕ → Node → List Node → ℕ → ℕ
+fenceOf p j n rest s = length (marksBefore p j (p .nodes)) + length (slotsMarks p n rest 0 s)
+
 marks-from-place : (p : Profile) (j : ℕ) (ms : List Node) → laidMarksFrom p ms ≡ marksBefore p j ms ++ laidMarksFrom p (drop j ms)
 marks-from-place p zero ms = refl
 marks-from-place p (suc j) [] = refl
@@ -119,8 +123,8 @@ module _ (p : Profile) (n : Node) (rest : List Node) where
 -- between the fences of slot s of the node at place j + 1 stand the slot's marks
 pub slot-between : (words : ℕ) (p : Profile) (j : ℕ) (n : Node) (rest : List Node) → drop j (p .nodes) ≡ n ∷ rest → (s : ℕ) → s ≤ lanes
     → between
-    (length (marksBefore p j (p .nodes)) + length (slotsMarks p n rest 0 s))
-    (length (marksBefore p j (p .nodes)) + length (slotsMarks p n rest 0 (suc s)))
+    (fenceOf p j n rest s)
+    (fenceOf p j n rest (suc s))
     (laidMarks words p)
     ≡ slotMarks p n rest s
 unfolding laidMarks padded

@@ -2,25 +2,24 @@
 -- Assumes nothing.
 use Prim.Native.Nat.{ℕ, zero, suc, _+_, _-_, _*_, _≤_, _<_}
 use mathlib.Core.Path.{_≡_, refl, sym, ap, _∙_}
-use mathlib.Core.Bool.{cond}
 use mathlib.Core.List.{List, [], _∷_, _++_, append-assoc}
 use native.Mathlib.Omega.{arith}
 use native.Mathlib.Nat.{add-zero, zero-add, add-suc, suc-add, add-assoc}
 use lib.ListN.{length, getD, drop, replicate, length-append, List·getD-append, getD-replicate}
 use lib.Seq.{drop-nil, drop-drop, drop-at, drop-append-le, getD-append-add, getD-drop}
-use Rattle.rules.specs.NodesLanesEdges.{Node, lanes, takesPart}
+use Rattle.rules.specs.NodesLanesEdges.{Node, lanes}
 use Rattle.rules.specs.Profile.{Profile}
 use Rattle.rules.specs.Marks.{marksInUse}
 use Rattle.rules.specs.Staircase.{slotsPerNode}
 use Rattle.store.specs.Sizes.{nodePlaceWords}
 use Rattle.store.specs.Places.{nodeField, keyField, levelField, linkField, fenceField, header, nodesInUseField, marksInUseField, inUse}
-use Rattle.store.specs.LaidMarks.{slotsMarks, nodeMarks}
-use Rattle.store.specs.LaidNodes.{nextPlace, laidHeader, laidNode, laidNodesFrom, laidNodes}
+use Rattle.store.specs.LaidMarks.{nodeMarks}
+use Rattle.store.specs.LaidNodes.{nextPlace, laidHeader, laidNode, laidNodesFrom, laidNodes, linkOf}
 use Rattle.store.specs.Padded.{padded}
 use Rattle.rules.proofs.Lists.{place-within}
 use Rattle.store.proofs.Padded.{padded-length}
 use Rattle.store.proofs.PlaceWords.{header-words, fence-at, record-words}
-use Rattle.store.proofs.LaidMarks.{marksBefore}
+use Rattle.store.proofs.LaidMarks.{marksBefore, fenceOf}
 
 -- ---- how many words
 
@@ -113,13 +112,13 @@ module _ (words : ℕ) (p : Profile) where
     laid-level = node-field j n rest at levelField (omega arith)
 
     pub laid-link : (i : ℕ) → i < lanes
-        → nodeField (laidNodes words p) (suc j) (linkField i) ≡ cond (takesPart i n) (nextPlace i (suc (suc j)) rest) 0
+        → nodeField (laidNodes words p) (suc j) (linkField i) ≡ linkOf (suc j) n rest i
     laid-link i l =
         node-field j n rest at (linkField i) (omega arith)
         ∙ record-words p n rest (suc j) (length (marksBefore p j (p .nodes))) .link-at i l
 
     pub laid-fence : (s : ℕ) → s ≤ slotsPerNode
-        → nodeField (laidNodes words p) (suc j) (fenceField s) ≡ length (marksBefore p j (p .nodes)) + length (slotsMarks p n rest 0 s)
+        → nodeField (laidNodes words p) (suc j) (fenceField s) ≡ fenceOf p j n rest s
     laid-fence s l =
         let before : ℕ = length (marksBefore p j (p .nodes)) in
         node-field j n rest at (fenceField s) (omega arith)

@@ -3,16 +3,15 @@
 -- Assumes nothing.
 use Prim.Native.Nat.{ℕ, suc, _≤_, _<_}
 use mathlib.Core.Path.{_≡_, refl}
-use mathlib.Core.Bool.{cond}
 use mathlib.Core.List.{List, [], _∷_}
 use lib.ListN.{length, drop}
-use Rattle.rules.specs.NodesLanesEdges.{Node, lanes, takesPart}
+use Rattle.rules.specs.NodesLanesEdges.{Node, lanes}
 use Rattle.rules.specs.Profile.{Profile}
 use Rattle.rules.specs.Marks.{marksInUse}
 use Rattle.store.specs.Places.{nodeField, keyField, levelField, linkField, header, marksInUseField, inUse}
 use Rattle.store.specs.SaidProfile.{saidNode, saidNodesFrom, saidNodes}
 use Rattle.store.specs.SaidMarks.{saidMarks}
-use Rattle.store.specs.LaidNodes.{nextPlace}
+use Rattle.store.specs.LaidNodes.{nextPlace, linkOf}
 use Rattle.store.specs.LaidMarks.{slotMarks}
 use Rattle.rules.proofs.Lists.{rest-follows}
 
@@ -26,7 +25,7 @@ pub record Lays (p : Profile) (nodes marks : List ℕ) : Type 0 where
   pub level : (j : ℕ) (n : Node) (rest : List Node) → drop j (p .nodes) ≡ n ∷ rest → nodeField nodes (suc j) levelField ≡ n .level
   pub link :
       (j : ℕ) (n : Node) (rest : List Node) → drop j (p .nodes) ≡ n ∷ rest → (i : ℕ) → i < lanes
-      → nodeField nodes (suc j) (linkField i) ≡ cond (takesPart i n) (nextPlace i (suc (suc j)) rest) 0
+      → nodeField nodes (suc j) (linkField i) ≡ linkOf (suc j) n rest i
   pub slot :
       (j : ℕ) (n : Node) (rest : List Node) → drop j (p .nodes) ≡ n ∷ rest → (s : ℕ) → s ≤ lanes
       → saidMarks nodes marks (suc j) s ≡ slotMarks p n rest s

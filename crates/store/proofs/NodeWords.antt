@@ -2,33 +2,31 @@
 -- Assumes nothing.
 use Prim.Native.Nat.{ℕ, zero, suc, _+_, _-_, _*_, _/_, _%_, _≤_, _<_}
 use mathlib.Core.Path.{_≡_, sym, subst, _∙_}
-use mathlib.Core.Bool.{cond}
 use mathlib.Core.Logic.{⊎-elim}
 use mathlib.Core.List.{List, _∷_, _++_}
 use native.Mathlib.Omega.{arith}
 use lib.ListN.{length, getD, drop, length-append}
 use lib.Seq.{drop-cons, ext-getD}
-use Rattle.rules.specs.NodesLanesEdges.{Node, nodeOf, lanes, takesPart}
+use Rattle.rules.specs.NodesLanesEdges.{Node, nodeOf, lanes}
 use Rattle.rules.specs.Profile.{Profile}
 use Rattle.rules.specs.Marks.{marksInUse}
 use Rattle.rules.specs.Staircase.{slotsPerNode}
 use Rattle.rules.proofs.Means.{at-most-or-above}
 use Rattle.store.specs.Sizes.{nodePlaceWords}
 use Rattle.store.specs.Places.{nodeField, keyField, levelField, linkField, fenceField, header, laneCountField, marksInUseField, inUse}
-use Rattle.store.specs.LaidMarks.{slotsMarks}
-use Rattle.store.specs.LaidNodes.{nextPlace, laidHeader, laidNodesFrom, laidNodes}
+use Rattle.store.specs.LaidNodes.{nextPlace, laidHeader, laidNodesFrom, laidNodes, linkOf}
 use Rattle.store.proofs.Padded.{padded-past}
 use Rattle.store.proofs.PlaceWords.{header-words}
-use Rattle.store.proofs.LaidMarks.{marksBefore}
+use Rattle.store.proofs.LaidMarks.{fenceOf}
 use Rattle.store.proofs.LaidNodes.{records-length, header-field, laid-in-use, laid-marks-in-use, laid-first-link, laid-header-zero, laid-key, laid-level, laid-link, laid-fence}
 
 -- the fields of the node at place j + 1, with `rest` after it
 pub record RecordWords (p : Profile) (nodes : List ℕ) (j : ℕ) (n : Node) (rest : List Node) : Type 0 where
   pub key : nodeField nodes (suc j) keyField ≡ n .key
   pub level : nodeField nodes (suc j) levelField ≡ n .level
-  pub link : (i : ℕ) → i < lanes → nodeField nodes (suc j) (linkField i) ≡ cond (takesPart i n) (nextPlace i (suc (suc j)) rest) 0
+  pub link : (i : ℕ) → i < lanes → nodeField nodes (suc j) (linkField i) ≡ linkOf (suc j) n rest i
   pub fence : (s : ℕ) → s ≤ slotsPerNode
-      → nodeField nodes (suc j) (fenceField s) ≡ length (marksBefore p j (p .nodes)) + length (slotsMarks p n rest 0 s)
+      → nodeField nodes (suc j) (fenceField s) ≡ fenceOf p j n rest s
 
 pub record NodeWords (p : Profile) (nodes : List ℕ) : Type 0 where
   pub in-use : inUse nodes ≡ length (p .nodes)

@@ -2,13 +2,12 @@
 -- Assumes nothing.
 use Prim.Native.Nat.{ℕ, zero, suc, _+_, _≤_, _<_}
 use mathlib.Core.Path.{_≡_, refl, ap, _∙_}
-use mathlib.Core.Bool.{cond}
 use mathlib.Core.List.{List, [], _∷_, _++_}
 use native.Mathlib.Omega.{arith}
 use native.Mathlib.Nat.{zero-add}
 use lib.ListN.{length, getD, replicate, length-append, List·getD-append}
 use lib.Seq.{getD-append-add}
-use Rattle.rules.specs.NodesLanesEdges.{Node, lanes, takesPart}
+use Rattle.rules.specs.NodesLanesEdges.{Node, lanes}
 use Rattle.rules.specs.Profile.{Profile}
 use Rattle.rules.specs.Marks.{marksInUse}
 use Rattle.rules.specs.Staircase.{slotsPerNode}
@@ -16,7 +15,7 @@ use Rattle.rules.proofs.Lists.{made-length, made-at}
 use Rattle.store.specs.Sizes.{nodePlaceWords}
 use Rattle.store.specs.Places.{linkField, fenceField}
 use Rattle.store.specs.LaidMarks.{slotMarks, slotsMarks}
-use Rattle.store.specs.LaidNodes.{nextPlace, linksFrom, firstLinksFrom, fencesFrom, laidHeader, laidNode}
+use Rattle.store.specs.LaidNodes.{nextPlace, linkOf, linksFrom, firstLinksFrom, fencesFrom, laidHeader, laidNode}
 
 pub record PlaceWords (words : List ℕ) (link : ℕ → ℕ) (others : List ℕ) : Type 0 where
   pub size : length words ≡ nodePlaceWords
@@ -69,8 +68,8 @@ module _ (p : Profile) (n : Node) (rest : List Node) where
 
   -- a record: after its links the fences
   pub record-words : (j at : ℕ)
-      → PlaceWords (laidNode p j at n rest) (λ i. cond (takesPart i n) (nextPlace i (suc j) rest) 0) (fencesFrom p n rest at 0 slotsPerNode)
+      → PlaceWords (laidNode p j at n rest) (linkOf j n rest) (fencesFrom p n rest at 0 slotsPerNode)
   unfolding laidNode
   record-words j at =
-      place-words (n .key) (n .level) (λ i. cond (takesPart i n) (nextPlace i (suc j) rest) 0) (linksFrom j n rest) (λ i. refl) (λ i m. refl)
+      place-words (n .key) (n .level) (linkOf j n rest) (linksFrom j n rest) (λ i. refl) (λ i m. refl)
       (fencesFrom p n rest at 0 slotsPerNode) (fences-length at 0 slotsPerNode)

@@ -16,10 +16,14 @@ abbrev pub nextPlace : ℕ → ℕ → List Node → ℕ
 nextPlace i j [] = 0
 nextPlace i j (n ∷ ns) = cond (takesPart i n) j (nextPlace i (suc j) ns)
 
--- the links of the node at place j, with `rest` after it, in the m lanes from i on: 0 in a lane that it takes no part in
+-- the link in lane i of the node at place j, with `rest` after it: 0 in a lane that it takes no part in
+abbrev pub linkOf : ℕ → Node → List Node → ℕ → ℕ
+linkOf j n rest i = cond (takesPart i n) (nextPlace i (suc j) rest) 0
+
+-- its links in the m lanes from i on
 abbrev pub linksFrom : ℕ → Node → List Node → ℕ → ℕ → List ℕ
 linksFrom j n rest i zero = []
-linksFrom j n rest i (suc m) = cond (takesPart i n) (nextPlace i (suc j) rest) 0 ∷ linksFrom j n rest (suc i) m
+linksFrom j n rest i (suc m) = linkOf j n rest i ∷ linksFrom j n rest (suc i) m
 
 -- the header's links in the m lanes from i on: it stands before all nodes in all lanes
 abbrev pub firstLinksFrom : List Node → ℕ → ℕ → List ℕ

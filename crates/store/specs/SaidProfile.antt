@@ -28,6 +28,7 @@ saidBandsFrom words b zero = []
 saidBandsFrom words b (suc m) =
     addIf (saysYes (bandField words b liveField)) (saidBand words b) (saidBandsFrom words (suc b) m)
 
+-- the live bands of all numbers
 unfoldable pub saidBands : List ℕ → List Band
 saidBands words = saidBandsFrom words 0 bandPlaces
 
@@ -40,6 +41,7 @@ abbrev pub saidNodesFrom : List ℕ → ℕ → ℕ → List Node
 saidNodesFrom words i zero = []
 saidNodesFrom words i (suc m) = saidNode words i ∷ saidNodesFrom words (suc i) m
 
+-- as many nodes as the header counts
 unfoldable pub saidNodes : List ℕ → List Node
 saidNodes words = saidNodesFrom words 1 (inUse words)
 
@@ -47,5 +49,6 @@ saidNodes words = saidNodesFrom words 1 (inUse words)
 abbrev pub saidBy : List ℕ → List ℕ → Profile
 saidBy bands nodes = profileOf (saidBands bands) (saidNodes nodes)
 
+-- the profile that a memory says
 unfoldable pub saidProfile : Memory → Profile
 saidProfile m = saidBy (m .bands) (m .nodes)

@@ -36,7 +36,7 @@ pub const LINKS: usize = 2;
 pub const FENCES: usize = 10;
 
 // The node's own slot, and one for each lane.
-pub const SLOTS_PER_NODE: usize = 9;
+pub const SLOTS_PER_NODE: usize = 1 + LANES;
 
 // The header's place, and what stands there beside its links.
 pub const HEADER: usize = 0;

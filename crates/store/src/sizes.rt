@@ -2,9 +2,11 @@
 ghost use mathlib.Core.Path.{_≡_};
 ghost use Rattle.store.specs.Sizes.{sizesRight};
 ghost use Rattle.store.specs.Memory.{lent, lengthsIn};
+use crate::places::BAND_PLACE_WORDS;
+use crate::places::BAND_PLACES;
 use crate::places::NODE_PLACE_WORDS;
 
-const BAND_WORDS: usize = 8192;
+const BAND_WORDS: usize = BAND_PLACES * BAND_PLACE_WORDS;
 
 pub const MOST_NODES: usize = 2048;
 
