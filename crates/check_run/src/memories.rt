@@ -1,7 +1,5 @@
 // The memories that are tried.
-ghost use mathlib.Core.Path.{_≡_};
 ghost use Prim.Native.Nat.{_≤_};
-ghost use lib.ListN.{length};
 use crate::full;
 use crate::full::Keys;
 use crate::full::Levels;
@@ -25,31 +23,6 @@ fn lay(memory: Memory, bands: &mut [u32], nodes: &mut [u32], marks: &mut [u32]) 
     }
 }
 
-// Lays a memory in words that are zero, and tries it.
-fn lay_and_try(
-    name: &[u8],
-    memory: Memory,
-    node_room: usize,
-    mark_room: usize,
-    apart: usize,
-    bands: &mut [u32],
-    nodes: &mut [u32],
-    marks: &mut [u32],
-)
-    requires { ⌜
-        («node_room» ≤ 2048)
-        × (1 ≤ «mark_room»)
-        × («mark_room» ≤ 16384)
-        × (1 ≤ apart)
-        × (length (now bands) ≡ 8193)
-        × (length (now nodes) ≡ 40981)
-        × (length (now marks) ≡ 16385)
-        ⌝ }
-{
-    lay(memory, bands, nodes, marks);
-    trial::try_memory(name, node_room, mark_room, apart, bands, nodes, marks);
-}
-
 // Tries a memory in a room for so many nodes and marks, spoiling words so far apart.
 pub(crate) fn try_in(name: &[u8], memory: Memory, node_room: usize, mark_room: usize, apart: usize)
     requires { ⌜ («node_room» ≤ 2048) × (1 ≤ «mark_room») × («mark_room» ≤ 16384) × (1 ≤ apart) ⌝ }
@@ -57,9 +30,9 @@ pub(crate) fn try_in(name: &[u8], memory: Memory, node_room: usize, mark_room: u
     let mut bands = [0u32; trial::BANDS_LENT];
     let mut nodes = [0u32; trial::NODES_LENT];
     let mut marks = [0u32; trial::MARKS_LENT];
-    lay_and_try(
+    lay(memory, &mut bands, &mut nodes, &mut marks);
+    trial::try_memory(
         name,
-        memory,
         node_room,
         mark_room,
         apart,

@@ -2,10 +2,10 @@
 -- Assumes nothing.
 use Prim.Native.Nat.{ℕ, zero, suc, _+_, _-_, _*_, _/_, _%_, _≤_, _<_}
 use mathlib.Core.Path.{_≡_, refl, sym, _∙_, ap, subst}
-use mathlib.Core.Bool.{Bool, true, false, cond}
+use mathlib.Core.Bool.{Bool, true, false}
 use mathlib.Core.Logic.{_⊎_, inl, inr, ⊎-elim}
 use mathlib.Core.List.{List}
-use mathlib.Core.Option.{none, some}
+use mathlib.Core.Option.{some}
 use native.Mathlib.Nat.{eq-or-lt-of-le}
 use native.Mathlib.Omega.{arith}
 use lib.ListN.{length, getD}
@@ -21,7 +21,7 @@ use Rattle.store.specs.Sizes.{bandPlaceWords, bandPlaces}
 use Rattle.store.specs.Places.{bandField, liveField, lowClosedField, highClosedField, reserveField}
 use Rattle.store.specs.SaidProfile.{saidBand, saidBands}
 use Rattle.store.specs.LaidBands.{laidBandField, laidBands}
-use Rattle.store.proofs.SaidBands.{saysLive, band-by-place, in-said-bands}
+use Rattle.store.proofs.SaidBands.{saysLive, band-where, in-said-bands}
 use Rattle.store.proofs.LaidBands.{laid-bands-length, laid-band-word, laid-band-field}
 use Rattle.laying.specs.Zeros.{zerosBetween}
 use Rattle.laying.specs.BandPlaces.{bandPlaceFree, bandPlaceTaken, bandPlaceRight, bandPlacesRight}
@@ -118,13 +118,6 @@ module _ (bands : List ℕ) (b : ℕ) where
     words-laid : (f : ℕ) → f < bandPlaceWords → bandField bands b f ≡ laidBandField (bandNumbered b (saidBands bands)) f
 
   module _ (h : b < bandPlaces) where
-    -- what stands laid at the place of a number that is live, and of one that is not
-    numbered-live : saysLive bands b ≡ true → bandNumbered b (saidBands bands) ≡ some (saidBand bands b)
-    numbered-live e = band-by-place bands b h ∙ ap (λ t. cond t (some (saidBand bands b)) none) e
-
-    numbered-free : saysLive bands b ≡ false → bandNumbered b (saidBands bands) ≡ none
-    numbered-free e = band-by-place bands b h ∙ ap (λ t. cond t (some (saidBand bands b)) none) e
-
     place-means : Means (bandPlaceRight bands b) PlaceStands
     unfolding bandPlaceRight
     place-means = reworded (or-means free-means live-means) (⊎-elim free-stands live-stands) (stands (saysLive bands b) refl)
@@ -134,20 +127,20 @@ module _ (bands : List ℕ) (b : ℕ) where
             let off : saysLive bands b ≡ false = ap saysYes (z liveField (omega arith) (omega arith)) in
             record {
               right-if-live = λ e. never (sym off ∙ e);
-              words-laid = λ f l. z f (omega arith) l ∙ sym (ap (λ o. laidBandField o f) (numbered-free off));
+              words-laid = λ f l. z f (omega arith) l ∙ sym (ap (λ o. laidBandField o f) (band-where bands b h false off));
             }
 
         live-stands : LivePlace → PlaceStands
         live-stands p =
             record {
               right-if-live = λ e. p .band-right;
-              words-laid = λ f l. live-words p f l ∙ sym (ap (λ o. laidBandField o f) (numbered-live (ap saysYes (p .live-one))));
+              words-laid = λ f l. live-words p f l ∙ sym (ap (λ o. laidBandField o f) (band-where bands b h true (ap saysYes (p .live-one))));
             }
 
         stands : (t : Bool) → saysLive bands b ≡ t → PlaceStands → FieldsFree 0 ⊎ LivePlace
         stands true e p =
-            inr (words-live (λ f l. p .words-laid f l ∙ ap (λ o. laidBandField o f) (numbered-live e)) (p .right-if-live e))
-        stands false e p = inl (λ f a l. p .words-laid f l ∙ ap (λ o. laidBandField o f) (numbered-free e))
+            inr (words-live (λ f l. p .words-laid f l ∙ ap (λ o. laidBandField o f) (band-where bands b h true e)) (p .right-if-live e))
+        stands false e p = inl (λ f a l. p .words-laid f l ∙ ap (λ o. laidBandField o f) (band-where bands b h false e))
 
 module _ (bands : List ℕ) (whole : length bands ≡ bandPlaces * bandPlaceWords) where
   abbrev AllStand : Type 0

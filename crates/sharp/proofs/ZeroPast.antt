@@ -2,9 +2,9 @@
 -- Assumes nothing.
 use Prim.Native.Nat.{ℕ, zero, suc, _+_, _-_, _*_, _/_, _%_, _≤_, _<_}
 use mathlib.Core.Path.{_≡_, refl, sym, _∙_, ap}
-use mathlib.Core.Bool.{Bool, false, cond}
+use mathlib.Core.Bool.{Bool, false}
 use mathlib.Core.List.{List, [], _∷_, _++_}
-use mathlib.Core.Option.{none, some}
+use mathlib.Core.Option.{none}
 use native.Mathlib.Nat.{sub-zero, suc-sub-suc}
 use native.Mathlib.Omega.{arith}
 use lib.ListN.{length, getD, drop, replicate, List·getD-eq-default}
@@ -27,7 +27,7 @@ use Rattle.store.specs.LaidMarks.{laidMarks}
 use Rattle.store.specs.LaidMemory.{laidMemory}
 use Rattle.store.specs.Sound.{sound}
 use Rattle.store.proofs.Padded.{padded-length, zeros-read}
-use Rattle.store.proofs.SaidBands.{band-by-place}
+use Rattle.store.proofs.SaidBands.{band-where}
 
 -- as many band words as memory of right sizes has
 abbrev pub allBandWords : ℕ
@@ -118,7 +118,7 @@ module _ (p : ℕ) (words : List ℕ) (size : length words ≡ p * bandPlaceWord
 
   past-none-numbered : (b : ℕ) → p ≤ b → b < bandPlaces → bandNumbered b (saidBands whole) ≡ none
   past-none-numbered b l h =
-      band-by-place whole b h ∙ ap (λ t. cond t (some (saidBand whole b)) none) (ap saysYes (whole-field b liveField) ∙ past-not-live b l)
+      band-where whole b h false (ap saysYes (whole-field b liveField) ∙ past-not-live b l)
 
   past-lay-none : (q m : ℕ) → p * bandPlaceWords ≤ q → q + m ≤ allBandWords → laidBandsFrom (saidBands whole) q m ≡ replicate m 0
   past-lay-none q zero l h = refl

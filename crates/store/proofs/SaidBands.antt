@@ -85,6 +85,10 @@ module _ (words : List ℕ) where
         go false e =
             numbered-none b (saidBands words) .1 (λ d i q. never (sym e ∙ ap saysLive (sym q) ∙ said-by-own-place d i))
 
+    -- .. so the place's own band where it says that the number is live, and none where it says that it is not
+    pub band-where : (t : Bool) → saysLive b ≡ t → bandNumbered b (saidBands words) ≡ cond t (some (saidBand words b)) none
+    band-where t e = band-by-place ∙ ap (λ u. cond u (some (saidBand words b)) none) e
+
     pub live-by-place : isLive b (saidBands words) ≡ saysLive b
     live-by-place =
         same-means
