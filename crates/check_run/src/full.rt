@@ -8,6 +8,7 @@ use crate::layout::LANES;
 use crate::layout::LINKS;
 use crate::layout::MARKS_IN_USE;
 use crate::layout::NODE_PLACE_WORDS;
+use crate::spoiling::Slice;
 use crate::words;
 
 const NODE_WORDS: usize = 40980;
@@ -38,7 +39,7 @@ pub enum Levels {
 
 // Which machine the node of an index, counted from 0, stands in.
 fn machine_of(keys: Keys, index: usize) -> usize
-    requires { ⌜ index < 2048 ⌝ }
+    requires { ⌜ index < 16384 ⌝ }
     ensures { λ r. ⌜ r < 2 ^ 32 ⌝ }
 {
     match keys {
@@ -49,7 +50,7 @@ fn machine_of(keys: Keys, index: usize) -> usize
 
 // The key of the node of an index, counted from 0.
 fn key_of(keys: Keys, index: usize) -> usize
-    requires { ⌜ index < 2048 ⌝ }
+    requires { ⌜ index < 16384 ⌝ }
     ensures { λ r. ⌜ r < 2 ^ 32 ⌝ }
 {
     match keys {
@@ -60,7 +61,7 @@ fn key_of(keys: Keys, index: usize) -> usize
 
 // A word of a band's place.
 fn band_word(keys: Keys, number: usize, word: usize) -> usize
-    requires { ⌜ number < 1024 ⌝ }
+    requires { ⌜ number < 8192 ⌝ }
     ensures { λ r. ⌜ r < 2 ^ 32 ⌝ }
 {
     match word {
@@ -235,28 +236,26 @@ fn place_word(keys: Keys, levels: Levels, place: usize, word: usize) -> usize
     }
 }
 
-fn lay_bands(keys: Keys, bands: &mut [u32]) {
-    let mut at = 0;
-    while at < BAND_WORDS {
-        let word = band_word(keys, at / BAND_PLACE_WORDS, at % BAND_PLACE_WORDS);
-        words::put_word(bands, at, word as u32);
-        at += 1;
+// A word of a slice by its index.
+fn word_of(slice: Slice, keys: Keys, levels: Levels, at: usize) -> usize
+    requires { ⌜ at < 40980 ⌝ }
+    ensures { λ r. ⌜ r < 2 ^ 32 ⌝ }
+{
+    match slice {
+        Slice::Bands => band_word(keys, at / BAND_PLACE_WORDS, at % BAND_PLACE_WORDS),
+        Slice::Nodes => place_word(keys, levels, at / NODE_PLACE_WORDS, at % NODE_PLACE_WORDS),
+        Slice::Marks => at / MARKS_PER_BAND,
     }
 }
 
-fn lay_nodes(keys: Keys, levels: Levels, nodes: &mut [u32]) {
+// Lays so many words of a slice.
+fn lay_words(slice: Slice, keys: Keys, levels: Levels, count: usize, words: &mut [u32])
+    requires { ⌜ count ≤ 40980 ⌝ }
+{
     let mut at = 0;
-    while at < NODE_WORDS {
-        let word = place_word(keys, levels, at / NODE_PLACE_WORDS, at % NODE_PLACE_WORDS);
-        words::put_word(nodes, at, word as u32);
-        at += 1;
-    }
-}
-
-fn lay_marks(marks: &mut [u32]) {
-    let mut at = 0;
-    while at < MARKS {
-        words::put_word(marks, at, (at / MARKS_PER_BAND) as u32);
+    while at < count {
+        let word = word_of(slice, keys, levels, at);
+        words::put_word(words, at, word as u32);
         at += 1;
     }
 }
@@ -269,7 +268,7 @@ pub(crate) fn lay(
     nodes: &mut [u32],
     marks: &mut [u32],
 ) {
-    lay_bands(keys, bands);
-    lay_nodes(keys, levels, nodes);
-    lay_marks(marks);
+    lay_words(Slice::Bands, keys, levels, BAND_WORDS, bands);
+    lay_words(Slice::Nodes, keys, levels, NODE_WORDS, nodes);
+    lay_words(Slice::Marks, keys, levels, MARKS, marks);
 }

@@ -1,23 +1,23 @@
--- `check_run::full::lay_bands` meets its contract. The loop's invariant: the index is within the words laid, and the slice keeps its length.
+-- `check_run::full::lay_words` meets its contract. The loop's invariant: the index is within the words laid, and the slice keeps its length.
 -- Assumes nothing.
 use Prim.Native.Nat.{_-_, _≤_}
 use mathlib.Core.Path.{_≡_}
 use borrow.Author.Needs.{needs}
 use lib.ListN.{length}
-use Rattle.check_run.proofs.full.lay_bands.Statement.{statement}
-use Rattle.check_run.proofs.full.lay_bands.Tie as tie
+use Rattle.check_run.proofs.full.lay_words.Statement.{statement}
+use Rattle.check_run.proofs.full.lay_words.Tie as tie
 
 abbrev Inv-loop : tie.InvT-loop
-Inv-loop keys bands₀ at₀ bands at = (at ≤ 8192) × (length bands ≡ length bands₀)
+Inv-loop slice keys levels count words₀ at₀ words at = (at ≤ count) × (length words ≡ length words₀)
 
 abbrev μ-loop : tie.MeasureT-loop
-μ-loop keys bands₀ at₀ bands at = 8192 - at
+μ-loop slice keys levels count words₀ at₀ words at = count - at
 
 loop-holds : tie.Need-loop-holds Inv-loop μ-loop
 loop-holds c = search needs
 
-band-word-requires : tie.Need-band-word-requires Inv-loop μ-loop
-band-word-requires c κs = search needs
+word-of-requires : tie.Need-word-of-requires Inv-loop μ-loop
+word-of-requires c κs = search needs
 
 cast-put-word : tie.Need-cast-put-word Inv-loop μ-loop
 cast-put-word c = search needs
@@ -40,14 +40,14 @@ same-length c = search needs
 returns : tie.Need-returns Inv-loop μ-loop
 returns c = search needs
 
-pub lay-bands-spec : {M : Type 1} → statement M
-lay-bands-spec =
+pub lay-words-spec : {M : Type 1} → statement M
+lay-words-spec =
     tie.close
     (tie.spec
     Inv-loop
     μ-loop
     loop-holds
-    band-word-requires
+    word-of-requires
     cast-put-word
     put-word-requires
     add-at
