@@ -14,13 +14,13 @@ use Rattle.rules.specs.Connectives.{_and_, _or_, saysYes}
 use Rattle.rules.specs.Lists.{all, allFrom, member}
 use Rattle.rules.specs.HallLine.{Band}
 use Rattle.rules.proofs.Connectives.{both}
-use Rattle.rules.proofs.Means.{and-true, itself, or-right, same-means}
-use Rattle.rules.proofs.Lists.{all-append, all-from-means}
+use Rattle.rules.proofs.Means.{and-true, or-right}
+use Rattle.rules.proofs.Lists.{all-append, all-from-same}
 use Rattle.store.specs.Sizes.{bandPlaces}
 use Rattle.store.specs.Places.{bandField, liveField, inUse}
 use Rattle.store.specs.SaidProfile.{saidBand}
 use Rattle.search.specs.PlaceOf.{placeOf}
-use Rattle.laying.specs.Ends.{endPlacesOf, endPlacesFrom, endPlaces, endsMatch, noted, allNoted}
+use Rattle.laying.specs.Ends.{endPlacesOf, endPlacesFrom, endPlaces, endsMatch, noted, isNoted, allNoted}
 
 noted-append : (words is js : List ℕ) → noted words (is ++ js) ≡ noted (noted words is) js
 noted-append words [] js = refl
@@ -95,35 +95,32 @@ module _ (bands nodes old : List ℕ) where
 -- ---- the places noted
 
 -- a place is noted when it is among those that were to be, or was before
-found-at : (words is : List ℕ) (i : ℕ) → i < length words → saysYes (getD (noted words is) i 0) ≡ member i is or saysYes (getD words i 0)
+found-at : (words is : List ℕ) (i : ℕ) → i < length words → isNoted (noted words is) i ≡ member i is or isNoted words i
 unfolding _or_
 found-at words [] i l = refl
 found-at words (j ∷ is) i l = found-at (set words j 1) is i (rw (length-set words j 1) l) ∙ go (eqb i j) refl
   where
-    go : (t : Bool) → eqb i j ≡ t → member i is or saysYes (getD (set words j 1) i 0) ≡ (t or member i is) or saysYes (getD words i 0)
+    go : (t : Bool) → eqb i j ≡ t → member i is or isNoted (set words j 1) i ≡ (t or member i is) or isNoted words i
     go true e =
         let same = eqb-true i j e in
         let there : getD (set words j 1) i 0 ≡ 1 = rw same (getD-set-same words j 1 0 (omega arith)) in
         rw there (or-right (member i is) true refl)
     go false e = rw (getD-set-other words j i 1 0 (eqb-false i j e))
 
--- with nothing noted before, each of the first places is noted exactly when it is among them
-all-found : (n m : ℕ) (is : List ℕ) → m < n → allNoted (noted (replicate n 0) is) m ≡ allFrom (λ i. member i is) 1 m
-unfolding allNoted _or_
-all-found n m is l =
-    same-means
-    (all-from-means 1 m (λ i a b. rw (found i (omega arith)) (itself (member i is))))
-    (all-from-means 1 m (λ i a b. itself (member i is)))
-    (λ h. h)
-    (λ h. h)
+-- with nothing noted before, a place is noted exactly when it is among them ..
+pub found-alone : (n i : ℕ) (is : List ℕ) → i < n → isNoted (noted (replicate n 0) is) i ≡ member i is
+unfolding _or_
+found-alone n i is h =
+    found-at (replicate n 0) is i (omega (arith, length-replicate {A = ℕ} n 0)) ∙ rw (getD-replicate {A = ℕ} n i 0 0 h) (alone (member i is))
   where
     alone : (t : Bool) → t or false ≡ t
     alone true = refl
     alone false = refl
 
-    found : (i : ℕ) → i < n → saysYes (getD (noted (replicate n 0) is) i 0) ≡ member i is
-    found i h =
-        found-at (replicate n 0) is i (omega (arith, length-replicate {A = ℕ} n 0)) ∙ rw (getD-replicate {A = ℕ} n i 0 0 h) (alone (member i is))
+-- .. so all of the first places are exactly when each is
+all-found : (n m : ℕ) (is : List ℕ) → m < n → allNoted (noted (replicate n 0) is) m ≡ allFrom (λ i. member i is) 1 m
+unfolding allNoted
+all-found n m is l = all-from-same 1 m (λ i a b. found-alone n i is (omega arith))
 
 -- so the test by what is noted is the one of the ends and the nodes
 pub matched-by-notes : (bands nodes : List ℕ) {old found : List ℕ} {placed all-noted : Bool} {in-use : ℕ}

@@ -103,6 +103,16 @@ module _ (bands nodes : List ℕ) where
         stands : {i k : ℕ} → NodeAt k (saidNodes nodes) → i ≡ placeOf nodes k → saysYes i ≡ true
         stands {k = k} n e = ap saysYes e ∙ has-place-means k .test n
 
+    -- a place in use is among those gone through exactly when the key which it has is an end of some band
+    pub place-of-end-means : (i : ℕ) → 1 ≤ i → i < 1 + inUse nodes
+        → Means (member i (endPlaces bands nodes)) (Some (EndOf (saidNode nodes i .key)) (saidBands bands))
+    place-of-end-means i a b =
+        let at : (k : ℕ) → (i ≡ placeOf nodes k) ↔ (saidNode nodes i .key ≡ k) = λ k. place-by-key i k a b in
+        reworded
+        (member-means i (endPlaces bands nodes))
+        (λ m. let s = in-end-places i .0 m in (s .0, s .1, ⊎-map (at _ .0) (at _ .0) (s .2)))
+        (λ s. in-end-places i .1 (s .0, s .1, ⊎-map (at _ .1) (at _ .1) (s .2)))
+
     -- each place in use is that of an end: its node stands there
     all-ends-means :
         Means
@@ -110,17 +120,9 @@ module _ (bands nodes : List ℕ) where
         (Each (λ n. Some (EndOf (n .key)) (saidBands bands)) (saidNodes nodes))
     all-ends-means =
         reworded
-        (all-from-means 1 (inUse nodes) is-end)
+        (all-from-means 1 (inUse nodes) place-of-end-means)
         (λ h n m. let s = in-said-nodes nodes n .0 m in subst (λ x. Some (EndOf (x .key)) (saidBands bands)) (sym (s .3)) (h (s .0) (s .1) (s .2)))
         (λ h i a b. h (saidNode nodes i) (in-said-nodes nodes (saidNode nodes i) .1 (i, a, b, refl)))
-      where
-        is-end : (i : ℕ) → 1 ≤ i → i < 1 + inUse nodes → Means (member i (endPlaces bands nodes)) (Some (EndOf (saidNode nodes i .key)) (saidBands bands))
-        is-end i a b =
-            let at : (k : ℕ) → (i ≡ placeOf nodes k) ↔ (saidNode nodes i .key ≡ k) = λ k. place-by-key i k a b in
-            reworded
-            (member-means i (endPlaces bands nodes))
-            (λ m. let s = in-end-places i .0 m in (s .0, s .1, ⊎-map (at _ .0) (at _ .0) (s .2)))
-            (λ s. in-end-places i .1 (s .0, s .1, ⊎-map (at _ .1) (at _ .1) (s .2)))
 
     pub ends-mean :
         Means

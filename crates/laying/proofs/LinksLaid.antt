@@ -35,11 +35,13 @@ module _ (nodes : List ℕ) where
       (λ h lane b. h lane (omega arith) (omega arith))
       (λ h lane a b. h lane (omega arith))
 
-  due-first : (lane : ℕ) → lane < lanes → linkDueAt nodes header lane ≡ nextPlace lane 1 (saidNodes nodes)
+  -- what is due is the next place of the lane: for the header the first ..
+  pub due-first : (lane : ℕ) → lane < lanes → linkDueAt nodes header lane ≡ nextPlace lane 1 (saidNodes nodes)
   unfolding linkDueAt linkedLanes
   due-first lane h = rw (lt-ltb lane lanes h, next-among-said nodes lane 0)
 
-  due-at : (j : ℕ) {n : Node} {rest : List Node} → drop j (saidNodes nodes) ≡ n ∷ rest → (lane : ℕ)
+  -- .. and for a node the first after it
+  pub due-at : (j : ℕ) {n : Node} {rest : List Node} → drop j (saidNodes nodes) ≡ n ∷ rest → (lane : ℕ)
       → linkDueAt nodes (suc j) lane ≡ cond (takesPart lane n) (nextPlace lane (suc (suc j)) rest) 0
   unfolding linkDueAt takesPart saidNode
   due-at j at lane =

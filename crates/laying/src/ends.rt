@@ -9,7 +9,7 @@ ghost use Rattle.laying.specs.Ends.{endPlacesOf, endPlaces, endsMatch, n
 ghost use Rattle.store.specs.Places.{inUse};
 
 // A place for each node, and one for the header.
-const MOST_PLACES: usize = store::MOST_NODES + 1;
+pub const MOST_PLACES: usize = store::MOST_NODES + 1;
 
 // Notes an end's place, and answers whether it has one.
 fn note(place: usize, found: &mut [u32]) -> bool
@@ -39,7 +39,7 @@ fn note_ends_of(bands: &[u32], nodes: &[u32], number: usize, found: &mut [u32]) 
 }
 
 // Notes the places of the ends of all live bands, and answers whether all have one.
-fn note_ends(bands: &[u32], nodes: &[u32], found: &mut [u32]) -> bool
+pub fn note_ends(bands: &[u32], nodes: &[u32], found: &mut [u32]) -> bool
     ensures { λ r. ⌜
         (r ≡ all saysYes (endPlaces (now (bands .entry)) (now (nodes .entry))))
         × (now (found .exit) ≡ noted (now (found .entry)) (endPlaces (now (bands .entry)) (now (nodes .entry))))

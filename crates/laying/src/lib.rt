@@ -8,3 +8,6 @@ mod node_places;
 mod zeros;
 
 pub use checking::check;
+pub use ends::MOST_PLACES;
+pub use ends::note_ends;
+pub use links::raise;

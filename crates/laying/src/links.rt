@@ -26,7 +26,7 @@ fn links_due(nodes: &[u32], place: usize, level: usize, ahead: &[u32]) -> bool
 }
 
 // A node's place becomes the first ahead in each lane that it has.
-fn raise(place: usize, level: usize, ahead: &mut [u32])
+pub fn raise(place: usize, level: usize, ahead: &mut [u32])
     requires { ⌜ (place < 2 ^ 32) × (length (now ahead) ≡ lanes) ⌝ }
     ensures { λ _. ⌜ now (ahead .exit) ≡ raised place level (now (ahead .entry)) ⌝ }
 {

@@ -8,9 +8,6 @@ ghost use Rattle.rules.specs.Staircase.{slotsPerNode};
 ghost use Rattle.laying.specs.MarkPlaces.{marksInUseRight, marksRight, placeFencesAt, fencesAt, marksAsLaid};
 ghost use Rattle.store.specs.Places.{inUse};
 
-// A cursor for each slot of 2,048 nodes, and one past the last.
-const MOST_CURSORS: usize = store::MOST_NODES * store::SLOTS_PER_NODE + 1;
-
 // Whether there is room for so many marks, and the header counts them.
 fn marks_in_use_right(nodes: &[u32], room: usize, count: usize) -> bool
     ensures { λ r. ⌜ r ≡ marksInUseRight (now (nodes .entry)) room count ⌝ }
@@ -119,7 +116,7 @@ pub(crate) fn marks_right(bands: &[u32], nodes: &[u32], marks: &[u32]) -> bool
     requires { ⌜ (inUse (now nodes) ≤ mostNodes) × (length (now marks) ≤ mostMarks) ⌝ }
     ensures { λ r. ⌜ r ≡ marksRight (now (bands .entry)) (now (nodes .entry)) (now (marks .entry)) ⌝ }
 {
-    let mut cursors = [0u32; MOST_CURSORS];
+    let mut cursors = [0u32; marking::MOST_CURSORS];
     let mut draft = [0u32; store::MOST_MARKS];
     marks_right_with(bands, nodes, marks, &mut cursors, &mut draft)
 }

@@ -2,7 +2,7 @@
 -- and so slot by slot, each slot where its fence says, and as many as the marks in use.
 -- Assumes nothing.
 use Prim.Native.Nat.{ℕ, zero, suc, _+_, _*_, _≤_}
-use mathlib.Core.Path.{_≡_, refl}
+use mathlib.Core.Path.{_≡_, refl, sym, _∙_, ap, subst}
 use mathlib.Core.Bool.{Bool, true, false}
 use mathlib.Core.Logic.{inl, inr}
 use mathlib.Core.List.{List, _∷_, _++_}
@@ -10,6 +10,7 @@ use lib.ListN.{length, drop}
 use Rattle.rules.specs.Lists.{addIf, onlyIf}
 use Rattle.rules.specs.HallLine.{Band}
 use Rattle.rules.specs.NodesLanesEdges.{Node}
+use Rattle.rules.specs.Profile.{profileOf}
 use Rattle.rules.specs.Marks.{marksInUse}
 use Rattle.rules.specs.Staircase.{slotsPerNode, slotNumber, walk}
 use Rattle.rules.proofs.Lists.{Each}
@@ -65,3 +66,12 @@ module _ (bands nodes : List ℕ) (linked : Linked nodes) (stands : Standing (sa
       → startOf (slotNumber j s) (staircases bands nodes)
       ≡ fenceOf (saidBy bands nodes) j n rest s
   slot-starts j n rest at s l = rw staircases-by-band (start-of-walks (saidBy bands nodes) stands j n rest at s l)
+
+-- linked words that say the same nodes have the same staircases
+pub same-staircases : (bands : List ℕ) {nodes others : List ℕ} → Linked nodes → Linked others → saidNodes nodes ≡ saidNodes others
+    → Standing (saidBy bands nodes) → staircases bands nodes ≡ staircases bands others
+same-staircases bands {nodes} {others} linked linked-too same stands =
+    let said : saidBy bands nodes ≡ saidBy bands others = ap (profileOf (saidBands bands)) same in
+    staircases-by-band bands nodes linked stands
+    ∙ ap walkMarks said
+    ∙ sym (staircases-by-band bands others linked-too (subst Standing said stands))

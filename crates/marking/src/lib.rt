@@ -4,6 +4,7 @@ mod putting;
 mod starting;
 mod walking;
 
+pub use counting::MOST_CURSORS;
 pub use counting::count;
 pub use putting::lay;
 pub use starting::to_starts;

@@ -2,7 +2,7 @@
 ghost use mathlib.Core.Path.{_≡_};
 ghost use Prim.Native.Nat.{_+_, _≤_, _<_, _^_};
 ghost use mathlib.Core.List.{[], _∷_};
-ghost use lib.ListN.{length, set, take};
+ghost use lib.ListN.{length, take};
 ghost use lib.Seq.{sets};
 ghost use Rattle.rules.specs.Lists.{onlyIf};
 ghost use Rattle.rules.specs.NodesLanesEdges.{lanes};
@@ -55,16 +55,6 @@ fn stair_to(nodes: &[u32], here: usize, stair: usize) -> usize
     store::node_word(nodes, here, store::LINKS + stair - 1)
 }
 
-// A word is stored; past the end nothing is done.
-fn put_word(words: &mut [u32], at: usize, value: usize)
-    requires { ⌜ value < 2 ^ 32 ⌝ }
-    ensures { λ _. ⌜ now (words .exit) ≡ set (now (words .entry)) at value ⌝ }
-{
-    if at < words.len() {
-        words[at] = value as u32;
-    }
-}
-
 // Stores a word where the test says so, and answers the index past it; else the index itself.
 fn put_word_if(words: &mut [u32], at: usize, value: usize, test: bool) -> usize
     requires { ⌜ (at ≤ 2 ^ 32) × (value < 2 ^ 32) ⌝ }
@@ -75,7 +65,7 @@ fn put_word_if(words: &mut [u32], at: usize, value: usize, test: bool) -> usize
         ⌝ }
 {
     if test {
-        put_word(words, at, value);
+        store::put_word(words, at, value);
         at + 1
     } else {
         at

@@ -11,7 +11,7 @@ use native.Mathlib.Omega.{arith}
 use native.Mathlib.Nat.{eq-or-lt-of-le, add-zero}
 use lib.Dec.{ltb, eqb}
 use lib.ListN.{length, getD, take, drop, length-drop}
-use lib.Seq.{drop-nil, drop-drop}
+use lib.Seq.{take-suc, drop-cons, drop-nil, drop-drop}
 use borrow.Author.Tests.{ltb-true, ltb-false, lt-ltb, le-ltb}
 use Rattle.rules.specs.Connectives.{_and_, oneIf}
 use Rattle.rules.specs.Lists.{onlyIf, addIf, any, all, keep, firstOf, countIf, member, distinct, someLane, placed, sameNumbers, allFrom}
@@ -277,6 +277,12 @@ module _ {A : Type 0} (j : ℕ) (xs : List A) {x : A} {rest : List A} (at : drop
   pub rest-follows : drop (suc j) xs ≡ rest
   rest-follows = rw (← add-one j, ← drop-drop 1 j xs, at)
 
+  -- and it stands after those before it
+  pub taken-next : take (suc j) xs ≡ take j xs ++ x ∷ []
+  taken-next =
+      let here : getD xs j x ≡ x = cc (drop-cons xs j x place-within) in
+      take-suc xs j x place-within ∙ ap (λ y. take j xs ++ y ∷ []) here
+
 -- ---- a list made element by element, from a function of the index, for the m indexes from i up
 
 module _ {A : Type 0} (f : ℕ → A) (made : ℕ → ℕ → List A) (empty : (i : ℕ) → made i zero ≡ []) (more : (i m : ℕ) → made i (suc m) ≡ f i ∷ made (suc i) m) where
@@ -506,3 +512,17 @@ module _ {A : Type 0} (number : A → ℕ) where
           → Ascends c (cond t (x ∷ y ∷ ys) (y ∷ placed number x ys))
       go true e ih = (l, (ltb-true (number x) (number y) e, a .1))
       go false e ih = let off = h y (inl refl) in (a .0, ih (omega (arith, ltb-false (number x) (number y) e)) (λ z i. h z (inr i)) (a .1))
+
+  -- who is below all others is placed first
+  pub placed-first : (x : A) (xs : List A) → Ascends (suc (number x)) xs → placed number x xs ≡ x ∷ xs
+  placed-first x [] a = refl
+  placed-first x (y ∷ ys) a = rw (lt-ltb (number x) (number y) (a .0))
+
+  -- who is placed and fails a test is not kept
+  pub keep-placed : (f : A → Bool) (x : A) → f x ≡ false → (xs : List A) → keep f (placed number x xs) ≡ keep f xs
+  keep-placed f x e [] = rw e
+  keep-placed f x e (y ∷ ys) = go (ltb (number x) (number y)) (keep-placed f x e ys)
+    where
+      go : (t : Bool) → keep f (placed number x ys) ≡ keep f ys → keep f (cond t (x ∷ y ∷ ys) (y ∷ placed number x ys)) ≡ keep f (y ∷ ys)
+      go true ih = rw e
+      go false ih = ap (addIf (f y) y) ih

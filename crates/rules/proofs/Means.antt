@@ -3,7 +3,7 @@
 -- Assumes nothing.
 use Prim.Native.Nat.{ℕ, _≤_, _<_}
 use mathlib.Core.Path.{_≡_, refl, sym, _∙_, ap}
-use mathlib.Core.Bool.{Bool, true, false, not, false≢true}
+use mathlib.Core.Bool.{Bool, true, false, not, cond, false≢true}
 use mathlib.Core.Logic.{_⊎_, inl, inr, ⊎-elim, ⊎-map}
 use lib.Dec.{leb, ltb, eqb}
 use borrow.Author.Tests.{ltb-true, ltb-false, leb-true, leb-false, eqb-true, not-true, not-false, lt-ltb, le-ltb, le-leb, lt-leb, eq-eqb}
@@ -193,3 +193,10 @@ module _ (x y : ℕ) where
 
   pub at-most-or-above : (x ≤ y) ⊎ (y < x)
   at-most-or-above = ⊎-map (leb-true x y) (leb-false x y) (passes-or-fails (leb x y))
+
+-- laid where one test passes, over what was laid where another does: laid where either does
+pub overlaid : {over under either : Bool} {X Y Z : Type 0} {d x : ℕ} (y : ℕ) → Means over X → Means under Y → Means either Z → (X → Z)
+    → (Y → Z) → (Z → X ⊎ Y) → (X → d ≡ x) → cond over d (cond under x y) ≡ cond either x y
+overlaid {over = true} y o u e first second one same = rw (e .test (first (o .fact refl))) (same (o .fact refl))
+overlaid {over = false} y o u e first second one same =
+    rw (same-means u e second (λ z. ⊎-elim (λ x. absurd (denied o .fact refl x)) (λ h. h) (one z)))

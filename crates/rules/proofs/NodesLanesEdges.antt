@@ -4,17 +4,18 @@
 -- Assumes nothing.
 use Prim.Native.Nat.{ℕ, suc, _≤_, _<_}
 use mathlib.Core.Path.{_≡_, refl, sym, ap, subst, _∙_}
-use mathlib.Core.Bool.{Bool, true, false}
+use mathlib.Core.Bool.{Bool, true, false, cond}
 use mathlib.Core.Logic.{_↔_, Iff·trans, _⊎_, inl, inr, ⊎-elim, ⊎-map}
 use mathlib.Core.List.{List, [], _∷_}
 use native.Mathlib.Omega.{arith}
 use lib.ListN.{drop}
-use borrow.Author.Tests.{eq-eqb, ne-eqb}
+use borrow.Author.Tests.{eq-eqb, ne-eqb, le-ltb}
+use Rattle.rules.specs.Connectives.{_or_}
 use Rattle.rules.specs.Lists.{addIf, placed}
 use Rattle.rules.specs.HallLine.{Band}
 use Rattle.rules.specs.NodesLanesEdges.{Node, Edge, edgeOf, lanes, isLevel, takesPart, laneOf, edgesFrom, edgesAlong, edgesIn, levelAt, standsAt, isEnd, isEndOfSome, endsStand, onlyEndsStand, nodeOf, withNode}
 use Rattle.rules.proofs.Means.{Means, reworded, denied, and-means, or-means, lt-means, le-means, eq-means}
-use Rattle.rules.proofs.Lists.{some-or-none, in-at-place, in-placed, placed-ascends, In, Some, Each, each-cons, any-means, all-means, in-made, Ascends, ascends-lower, ascends-from}
+use Rattle.rules.proofs.Lists.{some-or-none, in-at-place, in-placed, placed-ascends, placed-first, ascends-from, In, Some, Each, each-cons, any-means, all-means, in-made, Ascends, ascends-lower, ascends-from}
 
 -- a level is 1 to 8
 abbrev pub Level : ℕ → Type 0
@@ -240,3 +241,17 @@ module _ (k l : ℕ) (ns : List Node) where
     -- .. and a made one has the level given
     pub level-given : NoNodeAt k ns → levelAt k (withNode k l ns) ≡ l
     level-given h = level-there 0 (withNode k l ns) with-node-ascends (nodeOf k l) (in-with-node (nodeOf k l) .1 (inr (refl, h)))
+
+-- a node below the key stays before it
+pub made-after : (k l : ℕ) (n : Node) (ns : List Node) → n .key < k → withNode k l (n ∷ ns) ≡ n ∷ withNode k l ns
+unfolding withNode standsAt _or_
+made-after k l n ns h = rw (ne-eqb (n .key) k (λ e. omega arith), le-ltb k (n .key) (omega arith)) (go (standsAt k ns))
+  where
+    go : (t : Bool) → cond t (n ∷ ns) (n ∷ placed (λ m. m .key) (nodeOf k l) ns) ≡ n ∷ cond t ns (placed (λ m. m .key) (nodeOf k l) ns)
+    go true = refl
+    go false = refl
+
+-- before nodes that are all above the key the node made comes first
+pub made-first : (k l : ℕ) (ns : List Node) → Asc (suc k) ns → withNode k l ns ≡ nodeOf k l ∷ ns
+made-first k l ns a =
+    node-placed k l ns (λ n i e. omega (arith, ascends-from (λ m. m .key) (suc k) ns a n i)) ∙ placed-first (λ m. m .key) (nodeOf k l) ns a

@@ -58,7 +58,8 @@ one-if-says true = refl
 one-if-says false = refl
 
 module _ (bs : List Band) (b : ℕ) (h : b < bandPlaces) where
-  place-word : (o : Option Band) → bandNumbered b bs ≡ o → (f : ℕ) → f < bandPlaceWords → bandField (laidBands bs) b f ≡ laidBandField o f
+  -- a field of the place by the band that its number names
+  pub place-word : (o : Option Band) → bandNumbered b bs ≡ o → (f : ℕ) → f < bandPlaceWords → bandField (laidBands bs) b f ≡ laidBandField o f
   place-word o e f l = laid-band-field bs b f h l ∙ ap (λ x. laidBandField x f) e
 
   live-place-says : (d : Band) → bandNumbered b bs ≡ some d → SaysBand (laidBands bs) d b

@@ -5,7 +5,7 @@ use mathlib.Core.Path.{_≡_, refl, sym, ap, _∙_}
 use mathlib.Core.List.{List, [], _∷_, _++_, append-assoc}
 use native.Mathlib.Omega.{arith}
 use native.Mathlib.Nat.{add-zero, zero-add, add-suc, suc-add, add-assoc}
-use lib.ListN.{length, getD, drop, replicate, length-append, List·getD-append, getD-replicate}
+use lib.ListN.{length, getD, take, drop, replicate, length-append, List·getD-append, getD-replicate}
 use lib.Seq.{drop-nil, drop-drop, drop-at, drop-append-le, getD-append-add, getD-drop}
 use Rattle.rules.specs.NodesLanesEdges.{Node, lanes}
 use Rattle.rules.specs.Profile.{Profile}
@@ -17,7 +17,7 @@ use Rattle.store.specs.LaidMarks.{nodeMarks}
 use Rattle.store.specs.LaidNodes.{nextPlace, laidHeader, laidNode, laidNodesFrom, laidNodes, linkOf}
 use Rattle.store.specs.Padded.{padded}
 use Rattle.rules.proofs.Lists.{place-within}
-use Rattle.store.proofs.Padded.{padded-length}
+use Rattle.store.proofs.Padded.{padded-length, padded-taken}
 use Rattle.store.proofs.PlaceWords.{header-words, fence-at, record-words}
 use Rattle.store.proofs.LaidMarks.{marksBefore, fenceOf}
 
@@ -42,6 +42,16 @@ laid-nodes-length room p l =
     let records : List ℕ = laidNodesFrom p 1 0 (p .nodes) in
     padded-length (nodePlaceWords * (room + 1)) (laidHeader p ++ records)
     (omega (arith, length-append (laidHeader p) records, header-words p .size, records-length p 1 0 (p .nodes)))
+
+-- the node words of a profile, of fewer words that it fits, are the first of its node words of more
+pub laid-nodes-taken : (room more : ℕ) (p : Profile) → length (p .nodes) ≤ room → room ≤ more
+    → take (nodePlaceWords * (room + 1)) (laidNodes (nodePlaceWords * (more + 1)) p) ≡ laidNodes (nodePlaceWords * (room + 1)) p
+unfolding laidNodes
+laid-nodes-taken room more p fit h =
+    let records : List ℕ = laidNodesFrom p 1 0 (p .nodes) in
+    padded-taken (nodePlaceWords * (room + 1)) (nodePlaceWords * (more + 1)) (laidHeader p ++ records)
+    (omega (arith, length-append (laidHeader p) records, header-words p .size, records-length p 1 0 (p .nodes)))
+    (omega arith)
 
 -- ---- places
 

@@ -1,10 +1,13 @@
 -- What holds of the lent memory as words, for every profile and room:
+--   Copied         words copied over others
+--   NodeFields     a field of a node place stored
 --   RightSizes     which lengths are right, and which room they make
 --   Memory         two memories are the same
 --   SaidBands, SaidNodes    the bands and the nodes that any words say, place by place
 --   Between        the words from one index up to another
 --   Lays           what node and mark words that lay a profile say at each place, and that they say its nodes
 --   LaidBands, LaidNodes, LaidMarks    the words of a profile
+--   WithBand       .. and the band words once one number is laid anew
 --   LaidLays       .. so they lay it
 --   NodeWords      .. and are the only words of their length with those fields
 --   LaidEmpty      the words of the empty profile
@@ -15,6 +18,8 @@
 --   NextInLane     the next node of a lane, as the links and as the paper's search know it
 --   LinksLead      tests of the node that a link leads to
 -- Padded and PlaceWords have what these are proved with.
+pub mod Copied
+pub mod NodeFields
 pub mod RightSizes
 pub mod Memory
 pub mod SaidBands
@@ -24,6 +29,7 @@ pub mod Padded
 pub mod Lays
 pub mod PlaceWords
 pub mod LaidBands
+pub mod WithBand
 pub mod LaidMarks
 pub mod LaidNodes
 pub mod LaidLays

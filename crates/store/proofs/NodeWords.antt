@@ -15,6 +15,7 @@ use Rattle.rules.proofs.Means.{at-most-or-above}
 use Rattle.store.specs.Sizes.{nodePlaceWords}
 use Rattle.store.specs.Places.{nodeField, keyField, levelField, linkField, fenceField, header, laneCountField, marksInUseField, inUse}
 use Rattle.store.specs.LaidNodes.{nextPlace, laidHeader, laidNodesFrom, laidNodes, linkOf}
+use Rattle.store.proofs.NodeFields.{word-in-place}
 use Rattle.store.proofs.Padded.{padded-past}
 use Rattle.store.proofs.PlaceWords.{header-words}
 use Rattle.store.proofs.LaidMarks.{fenceOf}
@@ -80,12 +81,10 @@ each-field P key level link fence (suc (suc f)) l =
 -- words are the same that are the same in each field of each place
 same-by-fields : (a b : List ℕ) → length a ≡ length b
     → ((i f : ℕ) → f < nodePlaceWords → nodeField a i f ≡ nodeField b i f) → a ≡ b
-unfolding nodeField
 same-by-fields a b e h =
     ext-getD 0 a b e
     (λ q l.
-    let at : q / nodePlaceWords * nodePlaceWords + q % nodePlaceWords ≡ q = omega arith in
-    rw at at (h (q / nodePlaceWords) (q % nodePlaceWords) (omega arith)))
+    word-in-place a q ∙ h (q / nodePlaceWords) (q % nodePlaceWords) (omega arith) ∙ sym (word-in-place b q))
 
 module _ (p : Profile) (a b : List ℕ) (u : NodeWords p a) (v : NodeWords p b) where
   same-header : (f : ℕ) → f < nodePlaceWords → nodeField a header f ≡ nodeField b header f

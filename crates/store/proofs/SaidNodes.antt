@@ -5,10 +5,10 @@ use mathlib.Core.Path.{_≡_, refl, ap}
 use mathlib.Core.Logic.{_↔_, ⊎-map}
 use mathlib.Core.List.{List, _∷_}
 use native.Mathlib.Omega.{arith}
-use lib.ListN.{length, drop}
+use lib.ListN.{length, getD, drop}
 use Rattle.rules.specs.NodesLanesEdges.{Node}
-use Rattle.rules.proofs.Lists.{In, place-within, made-length, made-here, SomeLane, some-lane-up}
-use Rattle.store.specs.Places.{nodeField, keyField, levelField, inUse}
+use Rattle.rules.proofs.Lists.{In, place-within, made-length, made-at, made-here, SomeLane, some-lane-up}
+use Rattle.store.specs.Places.{nodeField, keyField, levelField, header, inUse}
 use Rattle.store.specs.SaidProfile.{saidNode, saidNodesFrom, saidNodes}
 
 module _ (nodes : List ℕ) where
@@ -23,6 +23,13 @@ module _ (nodes : List ℕ) where
   said-here j h =
       let next : 1 + j ≡ suc j = omega arith in
       rw next at (made-here (saidNode nodes) (saidNodesFrom nodes) (λ i. refl) (λ i m. refl) 1 (inUse nodes) j h)
+
+  -- by its number, counted from 0
+  pub said-no : (j : ℕ) (n : Node) → j < inUse nodes → getD (saidNodes nodes) j n ≡ saidNode nodes (suc j)
+  unfolding saidNodes
+  said-no j n h =
+      let next : 1 + j ≡ suc j = omega arith in
+      rw next at (made-at (saidNode nodes) (saidNodesFrom nodes) (λ i. refl) (λ i m. refl) n 1 (inUse nodes) j h)
 
   -- the nodes from place j + 1 on
   pub said-from : (j : ℕ) → drop j (saidNodes nodes) ≡ saidNodesFrom nodes (suc j) (inUse nodes - j)
@@ -66,3 +73,15 @@ module _ (nodes : List ℕ) where
     pub said-level : nodeField nodes (suc j) levelField ≡ n .level
     unfolding saidNode
     said-level = ap (λ m. m .level) said-at
+
+-- words with the same keys and levels in all places say the same nodes
+module _ (old new : List ℕ) (keys : (i : ℕ) → nodeField new i keyField ≡ nodeField old i keyField)
+    (levels : (i : ℕ) → nodeField new i levelField ≡ nodeField old i levelField) where
+  same-from : (i m : ℕ) → saidNodesFrom new i m ≡ saidNodesFrom old i m
+  unfolding saidNode
+  same-from i zero = refl
+  same-from i (suc m) = rw (keys i, levels i, same-from (suc i) m)
+
+  pub same-said : saidNodes new ≡ saidNodes old
+  unfolding saidNodes
+  same-said = rw (keys header) (same-from 1 (inUse old))

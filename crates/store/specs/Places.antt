@@ -2,16 +2,24 @@
 -- Assumes nothing.
 use Prim.Native.Nat.{ℕ, _+_, _*_}
 use mathlib.Core.List.{List}
-use lib.ListN.{getD}
+use lib.ListN.{getD, set}
 use Rattle.store.specs.Sizes.{bandPlaceWords, nodePlaceWords}
 
 -- field f of the place of band number b
 unfoldable pub bandField : List ℕ → ℕ → ℕ → ℕ
 bandField words b f = getD words (b * bandPlaceWords + f) 0
 
+-- the words once field f of the place of band number b is v; past the last word nothing changes
+unfoldable pub withBandField : List ℕ → ℕ → ℕ → ℕ → List ℕ
+withBandField words b f v = set words (b * bandPlaceWords + f) v
+
 -- field f of node place i; place 0 is the header's
 unfoldable pub nodeField : List ℕ → ℕ → ℕ → ℕ
 nodeField words i f = getD words (i * nodePlaceWords + f) 0
+
+-- the words once field f of node place i is v; past the last word nothing changes
+unfoldable pub withNodeField : List ℕ → ℕ → ℕ → ℕ → List ℕ
+withNodeField words i f v = set words (i * nodePlaceWords + f) v
 
 -- a band place: live (1, and 0 where the number is not live), scope, low and high end, low end closed, high end closed, and two words of zero
 abbrev pub liveField : ℕ

@@ -2,6 +2,7 @@
 mod places;
 mod records;
 mod sizes;
+mod words;
 
 pub use places::BAND_PLACE_WORDS;
 pub use places::BAND_PLACES;
@@ -22,8 +23,15 @@ pub use places::RESERVE;
 pub use places::SLOTS_PER_NODE;
 pub use places::band_word;
 pub use places::node_word;
+pub use places::put_node_word;
 pub use records::band_at;
+pub use records::drop_band;
 pub use records::is_live;
+pub use records::put_band;
+pub use sizes::BAND_WORDS;
 pub use sizes::MOST_MARKS;
 pub use sizes::MOST_NODES;
 pub use sizes::sizes_right;
+pub use words::clear;
+pub use words::copy;
+pub use words::put_word;

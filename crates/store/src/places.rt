@@ -1,8 +1,8 @@
-// Where each field stands, and reading one: a word past the end of its slice reads as 0, so that any memory can be read.
+// Where each field stands, reading one and storing one. A word past the end of its slice reads as 0, and nothing is stored there.
 ghost use mathlib.Core.Path.{_≡_};
 ghost use Prim.Native.Nat.{_<_, _^_};
-ghost use lib.ListN.{getD};
-ghost use Rattle.store.specs.Places.{bandField, nodeField};
+ghost use Rattle.store.specs.Places.{bandField, withBandField, nodeField, withNodeField};
+use crate::words;
 
 pub const BAND_PLACES: usize = 1024;
 
@@ -49,23 +49,20 @@ pub const MARKS_IN_USE: usize = 10;
 
 pub const LANES: usize = 8;
 
-// A word of a slice.
-fn word(words: &[u32], at: usize) -> usize
-    ensures { λ r. ⌜ (r ≡ getD (now (words .entry)) at 0) × (r < 2 ^ 32) ⌝ }
-{
-    if at < words.len() {
-        words[at] as usize
-    } else {
-        0
-    }
-}
-
 // A field of a band's place.
 pub fn band_word(bands: &[u32], number: usize, field: usize) -> usize
     requires { ⌜ (number < 2 ^ 32) × (field < 8) ⌝ }
     ensures { λ r. ⌜ (r ≡ bandField (now (bands .entry)) number field) × (r < 2 ^ 32) ⌝ }
 {
-    word(bands, number * BAND_PLACE_WORDS + field)
+    words::word(bands, number * BAND_PLACE_WORDS + field)
+}
+
+// A field of a band's place is stored.
+pub fn put_band_word(bands: &mut [u32], number: usize, field: usize, value: usize)
+    requires { ⌜ (number < 2 ^ 32) × (field < 8) × (value < 2 ^ 32) ⌝ }
+    ensures { λ _. ⌜ now (bands .exit) ≡ withBandField (now (bands .entry)) number field value ⌝ }
+{
+    words::put_word(bands, number * BAND_PLACE_WORDS + field, value);
 }
 
 // A field of a node place; place 0 is the header's.
@@ -73,5 +70,13 @@ pub fn node_word(nodes: &[u32], place: usize, field: usize) -> usize
     requires { ⌜ (place < 2 ^ 32) × (field < 20) ⌝ }
     ensures { λ r. ⌜ (r ≡ nodeField (now (nodes .entry)) place field) × (r < 2 ^ 32) ⌝ }
 {
-    word(nodes, place * NODE_PLACE_WORDS + field)
+    words::word(nodes, place * NODE_PLACE_WORDS + field)
+}
+
+// A field of a node place is stored.
+pub fn put_node_word(nodes: &mut [u32], place: usize, field: usize, value: usize)
+    requires { ⌜ (place < 2 ^ 32) × (field < 20) × (value < 2 ^ 32) ⌝ }
+    ensures { λ _. ⌜ now (nodes .exit) ≡ withNodeField (now (nodes .entry)) place field value ⌝ }
+{
+    words::put_word(nodes, place * NODE_PLACE_WORDS + field, value);
 }

@@ -1,10 +1,12 @@
-// Reading the band that a place says.
+// Reading the band that a place says, and laying one there.
 ghost use mathlib.Core.Path.{_≡_};
+ghost use mathlib.Core.Option.{none, some};
 ghost use Prim.Native.Nat.{_<_, _^_};
-ghost use Rattle.rules.specs.Connectives.{saysYes};
+ghost use Rattle.rules.specs.Connectives.{oneIf, saysYes};
 ghost use Rattle.hall.specs.SaidBand.{said};
 ghost use Rattle.store.specs.Places.{bandField, liveField};
 ghost use Rattle.store.specs.SaidProfile.{saidBand};
+ghost use Rattle.store.specs.WithBand.{withPlaceOf};
 use crate::places;
 use hall::Band;
 use hall::Key;
@@ -30,4 +32,42 @@ pub fn band_at(bands: &[u32], number: usize) -> Band
         low_closed: places::band_word(bands, number, places::LOW_CLOSED) != 0,
         high_closed: places::band_word(bands, number, places::HIGH_CLOSED) != 0,
     }
+}
+
+// The word for whether an end is closed.
+fn word_of(closed: bool) -> usize
+    ensures { λ r. ⌜ (r ≡ oneIf closed) × (r < 2 ^ 32) ⌝ }
+{
+    if closed { 1 } else { 0 }
+}
+
+// Lays a band in the place of its number.
+pub fn put_band(bands: &mut [u32], band: Band)
+    ensures { λ _. ⌜ now (bands .exit) ≡ withPlaceOf (some (said band)) (band .number) (now (bands .entry)) ⌝ }
+{
+    let number = band.number as usize;
+    let scope = band.scope as usize;
+    let low = band.low.0 as usize;
+    let high = band.high.0 as usize;
+    let low_closed = word_of(band.low_closed);
+    let high_closed = word_of(band.high_closed);
+    places::put_band_word(bands, number, places::LIVE, 1);
+    places::put_band_word(bands, number, places::SCOPE, scope);
+    places::put_band_word(bands, number, places::LOW, low);
+    places::put_band_word(bands, number, places::HIGH, high);
+    places::put_band_word(bands, number, places::LOW_CLOSED, low_closed);
+    places::put_band_word(bands, number, places::HIGH_CLOSED, high_closed);
+}
+
+// Frees the place of a number.
+pub fn drop_band(bands: &mut [u32], number: usize)
+    requires { ⌜ number < 2 ^ 32 ⌝ }
+    ensures { λ _. ⌜ now (bands .exit) ≡ withPlaceOf none number (now (bands .entry)) ⌝ }
+{
+    places::put_band_word(bands, number, places::LIVE, 0);
+    places::put_band_word(bands, number, places::SCOPE, 0);
+    places::put_band_word(bands, number, places::LOW, 0);
+    places::put_band_word(bands, number, places::HIGH, 0);
+    places::put_band_word(bands, number, places::LOW_CLOSED, 0);
+    places::put_band_word(bands, number, places::HIGH_CLOSED, 0);
 }

@@ -6,7 +6,7 @@ use crate::places::BAND_PLACE_WORDS;
 use crate::places::BAND_PLACES;
 use crate::places::NODE_PLACE_WORDS;
 
-const BAND_WORDS: usize = BAND_PLACES * BAND_PLACE_WORDS;
+pub const BAND_WORDS: usize = BAND_PLACES * BAND_PLACE_WORDS;
 
 pub const MOST_NODES: usize = 2048;
 

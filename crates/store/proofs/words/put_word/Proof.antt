@@ -1,10 +1,10 @@
--- `marking::walking::put_word` meets its contract.
+-- `store::words::put_word` meets its contract.
 -- Assumes nothing.
 use mathlib.Core.Path.{sym}
 use borrow.Author.Needs.{needs}
 use lib.Seq.{set-out}
-use Rattle.marking.proofs.walking.put_word.Statement.{statement}
-use Rattle.marking.proofs.walking.put_word.Tie as tie
+use Rattle.store.proofs.words.put_word.Statement.{statement}
+use Rattle.store.proofs.words.put_word.Tie as tie
 
 cast-words : tie.Need-cast-words
 cast-words c = search needs

@@ -1,4 +1,4 @@
--- `profile::emptying::clear` meets its contract. The loop's invariant: the words passed are zero, the others as they were.
+-- `store::words::clear` meets its contract. The loop's invariant: the words passed are zero, the others as they were.
 -- Assumes nothing.
 use Prim.Native.Nat.{ℕ, _-_, _≤_}
 use mathlib.Core.Path.{_≡_, ap, _∙_}
@@ -8,8 +8,8 @@ use borrow.Author.Needs.{needs}
 use borrow.Author.Fill.{fill-more}
 use lib.ListN.{length, set, drop, replicate}
 use lib.Seq.{drop-length}
-use Rattle.profile.proofs.emptying.clear.Statement.{statement}
-use Rattle.profile.proofs.emptying.clear.Tie as tie
+use Rattle.store.proofs.words.clear.Statement.{statement}
+use Rattle.store.proofs.words.clear.Tie as tie
 
 -- past the last word all are zero
 all-zero : (old : List ℕ) (i : ℕ) → i ≡ length old → replicate i 0 ++ drop i old ≡ replicate (length old) 0

@@ -1,11 +1,11 @@
--- `store::places::word` meets its contract.
+-- `store::words::word` meets its contract.
 -- Assumes nothing.
 use mathlib.Core.Path.{refl, sym}
 use native.Mathlib.Omega.{arith}
 use lib.ListN.{List·getD-eq-default}
 use borrow.Author.Needs.{needs}
-use Rattle.store.proofs.places.word.Statement.{statement}
-use Rattle.store.proofs.places.word.Tie as tie
+use Rattle.store.proofs.words.word.Statement.{statement}
+use Rattle.store.proofs.words.word.Tie as tie
 
 mul-result : tie.Need-mul-result
 mul-result c = search needs

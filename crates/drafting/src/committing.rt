@@ -1,0 +1,145 @@
+// A drafted profile judged by 11 and 12, and laid into the lent memory where neither is given.
+ghost use mathlib.Core.Path.{_≡_};
+ghost use mathlib.Core.Bool.{true};
+ghost use Prim.Native.Nat.{_*_, _≤_, _<_};
+ghost use lib.ListN.{length, replicate};
+ghost use Rattle.rules.specs.Room.{roomOf, mostNodes, mostMarks};
+ghost use Rattle.rules.specs.Marks.{marksInUse};
+ghost use Rattle.rules.specs.Staircase.{slotsPerNode};
+ghost use Rattle.rules.specs.BoxSaysNo.{leaving};
+ghost use Rattle.rules.specs.SoundMemory.{standing, soundIn};
+ghost use Rattle.hall.specs.Says.{answerSays};
+ghost use Rattle.store.specs.Sizes.{sizesRight};
+ghost use Rattle.store.specs.Memory.{lent, lengthsIn, roomIn};
+ghost use Rattle.store.specs.SaidProfile.{saidBands, saidNodes, saidBy};
+ghost use Rattle.store.specs.LaidBands.{laidBands};
+ghost use Rattle.store.specs.LaidNodes.{laidNodes};
+ghost use Rattle.store.specs.LaidMemory.{laidMemory};
+ghost use Rattle.drafting.specs.NodeDraft.{draftWords, DraftOf};
+ghost use Rattle.drafting.specs.Settled.{fitRefusal, settled, startsBy};
+use crate::fence_laying;
+use crate::link_laying;
+use hall::Answer;
+use hall::Refusal;
+
+// Judges 11, then 12, and where neither is given completes the node draft: links, fences and header. The cursors are then where the marks of each
+// slot start.
+fn fit(
+    draft_bands: &[u32],
+    draft_nodes: &mut [u32],
+    node_room: usize,
+    mark_room: usize,
+    cursors: &mut [u32],
+) -> Answer
+    requires { ⌜
+        DraftOf (saidNodes (now «draft_nodes»)) (now «draft_nodes»)
+        × (standing (saidBy (now «draft_bands») (now «draft_nodes»)) ≡ true)
+        × («node_room» ≤ mostNodes)
+        × («mark_room» ≤ mostMarks)
+        × (now cursors ≡ replicate (length (now cursors)) 0)
+        × (mostNodes * slotsPerNode < length (now cursors))
+        ⌝ }
+    ensures { λ r. ⌜
+        (answerSays r ≡ fitRefusal (roomOf «node_room» «mark_room») (saidBy (now («draft_bands» .entry)) (now («draft_nodes» .entry))))
+        × (answerSays r ≡ 0
+        → (now («draft_nodes» .exit) ≡ laidNodes draftWords (saidBy (now («draft_bands» .entry)) (now («draft_nodes» .entry))))
+        × (now (cursors .exit) ≡ startsBy (now (cursors .entry)) (now («draft_bands» .entry)) (now («draft_nodes» .exit))))
+        ⌝ }
+{
+    if node_room < store::node_word(draft_nodes, store::HEADER, store::NODES_IN_USE) {
+        return Answer::Refused(Refusal::NodesExceed);
+    }
+    link_laying::lay_links(draft_nodes);
+    let sum = marking::count(draft_bands, draft_nodes, mark_room, cursors);
+    if mark_room < sum {
+        return Answer::Refused(Refusal::MarksExceed);
+    }
+    store::put_node_word(draft_nodes, store::HEADER, store::LANE_COUNT, store::LANES);
+    store::put_node_word(draft_nodes, store::HEADER, store::MARKS_IN_USE, sum);
+    marking::to_starts(cursors);
+    fence_laying::lay_fences(draft_nodes, cursors);
+    Answer::Done
+}
+
+// Lays a completed draft into the memory, and its marks from these starts on.
+fn settle(
+    draft_bands: &[u32],
+    draft_nodes: &[u32],
+    starts: &mut [u32],
+    bands: &mut [u32],
+    nodes: &mut [u32],
+    marks: &mut [u32],
+)
+    requires { ⌜
+        (sizesRight (lengthsIn (lent (now bands) (now nodes) (now marks))) ≡ true)
+        × (soundIn (roomIn (lent (now bands) (now nodes) (now marks))) (saidBy (now «draft_bands») (now «draft_nodes»)) ≡ true)
+        × (now «draft_bands» ≡ laidBands (saidBands (now «draft_bands»)))
+        × (now «draft_nodes» ≡ laidNodes draftWords (saidBy (now «draft_bands») (now «draft_nodes»)))
+        × (now starts ≡ startsBy (replicate (length (now starts)) 0) (now «draft_bands») (now «draft_nodes»))
+        × (mostNodes * slotsPerNode < length (now starts))
+        ⌝ }
+    ensures { λ _. ⌜
+        lent (now (bands .exit)) (now (nodes .exit)) (now (marks .exit))
+        ≡ laidMemory (roomIn (lent (now (bands .entry)) (now (nodes .entry)) (now (marks .entry)))) (saidBy (now («draft_bands» .entry)) (now («draft_nodes» .entry)))
+        ⌝ }
+{
+    store::copy(draft_bands, bands);
+    store::copy(draft_nodes, nodes);
+    store::clear(marks);
+    marking::lay(draft_bands, draft_nodes, starts, marks);
+}
+
+// Judges the draft and lays it, with words to count in. No word of the memory is written before 11 and 12 are judged.
+fn commit_with(
+    draft_bands: &[u32],
+    draft_nodes: &mut [u32],
+    cursors: &mut [u32],
+    bands: &mut [u32],
+    nodes: &mut [u32],
+    marks: &mut [u32],
+) -> Answer
+    requires { ⌜
+        (sizesRight (lengthsIn (lent (now bands) (now nodes) (now marks))) ≡ true)
+        × (now «draft_bands» ≡ laidBands (saidBands (now «draft_bands»)))
+        × DraftOf (saidNodes (now «draft_nodes»)) (now «draft_nodes»)
+        × (standing (saidBy (now «draft_bands») (now «draft_nodes»)) ≡ true)
+        × (now cursors ≡ replicate (length (now cursors)) 0)
+        × (mostNodes * slotsPerNode < length (now cursors))
+        ⌝ }
+    ensures { λ r. ⌜
+        leaving (answerSays r) (lent (now (bands .exit)) (now (nodes .exit)) (now (marks .exit)))
+        ≡ settled (lent (now (bands .entry)) (now (nodes .entry)) (now (marks .entry))) (saidBy (now («draft_bands» .entry)) (now («draft_nodes» .entry)))
+        ⌝ }
+{
+    let node_room = nodes.len() / store::NODE_PLACE_WORDS - 1;
+    match fit(draft_bands, draft_nodes, node_room, marks.len(), cursors) {
+        Answer::Refused(refusal) => Answer::Refused(refusal),
+        Answer::Done => {
+            settle(draft_bands, draft_nodes, cursors, bands, nodes, marks);
+            Answer::Done
+        }
+    }
+}
+
+// Judges the profile that is drafted by 11 and 12, and lays it where neither is given; refused, no word of the memory is written.
+pub fn commit(
+    draft_bands: &[u32],
+    draft_nodes: &mut [u32],
+    bands: &mut [u32],
+    nodes: &mut [u32],
+    marks: &mut [u32],
+) -> Answer
+    requires { ⌜
+        (sizesRight (lengthsIn (lent (now bands) (now nodes) (now marks))) ≡ true)
+        × (now «draft_bands» ≡ laidBands (saidBands (now «draft_bands»)))
+        × DraftOf (saidNodes (now «draft_nodes»)) (now «draft_nodes»)
+        × (standing (saidBy (now «draft_bands») (now «draft_nodes»)) ≡ true)
+        ⌝ }
+    ensures { λ r. ⌜
+        leaving (answerSays r) (lent (now (bands .exit)) (now (nodes .exit)) (now (marks .exit)))
+        ≡ settled (lent (now (bands .entry)) (now (nodes .entry)) (now (marks .entry))) (saidBy (now («draft_bands» .entry)) (now («draft_nodes» .entry)))
+        ⌝ }
+{
+    let mut cursors = [0u32; marking::MOST_CURSORS];
+    commit_with(draft_bands, draft_nodes, &mut cursors, bands, nodes, marks)
+}
