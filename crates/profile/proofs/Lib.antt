@@ -1,18 +1,32 @@
 -- What each public call comes to.
--- On any memory:
---   CallLines      what a call answers, from plain facts on memory and arguments: a law for each place where its code returns
---   EmptyWords     the words that making an empty profile leaves
---   BandOnAny      the band readout is the rules' own on the bands that the words say
---   Alike          stab, edge and node readout are the same where header, node and mark words are
---   Settled        no second outcome meets a call's promise
--- Where node and mark words lay a standing profile, the calls are the rules' own on it:
---   StabOnLaid, EdgeOnLaid, NodeOnLaid, RoomOnLaid
--- .. so on sound memory:
---   OnSound        each stab and readout is the rules' own on the profile that the words say
---   ByProfile      and depends on nothing else
--- In plain words:
---   EmptyExact, CheckExact, StabExact, BandExact, EdgeExact, NodeExact, RoomExact
+-- The demands, as theorems, on any memory:
+--   RefusedExactly    a call answers the lowest number that applies, and 0 exactly when none does
+--   InsertRefused, RemoveRefused, ReadsRefused    .. each number of each call, in plain words
+--   RefusedUnchanged  refused, a change leaves all memory as it was, and a stab or readout answers zeros
+--   Lives             an accepted insert makes the band live as given, a remove ends it, and no other band changes
+--   LevelStays        a node keeps its level while it stands; a made one has the level given
+--   Alone             a call of one machine changes no answers at another machine's keys
+--   Local             other bands keep their marks outside the stretches, and gain none there
+--   Alike             stab, edge and node readout are the same where header, node and mark words are
+--   Settled           no second outcome meets a call's promise
+-- .. from sound memory, and from an empty profile on:
+--   KeepsSound        every call leaves sound memory sound, and all memory as long as it was
+--   AlwaysSound       after any calls memory is sound and the readouts show exactly what the rule marks
+--   AlwaysRuled       .. and memory is the one memory of the profile that the rules come to by those calls
+-- .. on sound memory:
+--   EmptyExact, CheckExact, StabExact, BandExact, EdgeExact, NodeExact, RoomExact    each call in plain words
+--   MarkedByRule      edge and node readouts show exactly the marks that the rule gives, and the room readout their number
+--   ByProfile         each stab and readout is a function of the profile alone
+-- What these are proved with:
+--   CallLines         what a call answers, from plain facts on memory and arguments: a law for each place where its code returns
+--   LowestLine        when a number is given, line by line
+--   EmptyWords        the words that making an empty profile leaves
+--   BandOnAny         the band readout is the rules' own on the bands that the words say
+--   StabOnLaid, EdgeOnLaid, NodeOnLaid, RoomOnLaid    the calls are the rules' own where words lay a standing profile
+--   OnSound           .. and so on sound memory, on the profile that the words say
+--   AcceptedChange    what an accepted insert or remove leaves
 pub mod CallLines
+pub mod LowestLine
 pub mod EmptyWords
 pub mod BandOnAny
 pub mod Alike
@@ -30,3 +44,17 @@ pub mod BandExact
 pub mod EdgeExact
 pub mod NodeExact
 pub mod RoomExact
+pub mod RefusedExactly
+pub mod InsertRefused
+pub mod RemoveRefused
+pub mod ReadsRefused
+pub mod RefusedUnchanged
+pub mod AcceptedChange
+pub mod Lives
+pub mod LevelStays
+pub mod Alone
+pub mod Local
+pub mod KeepsSound
+pub mod MarkedByRule
+pub mod AlwaysSound
+pub mod AlwaysRuled

@@ -17,10 +17,11 @@ use Rattle.profile.specs.declared.edge_readout.EdgeRead.{EdgeRead}
 use Rattle.profile.specs.declared.node_readout.NodeRead.{NodeRead}
 use Rattle.profile.specs.declared.room_readout.RoomRead.{RoomRead}
 
-pub empty-settled : {said : Change Memory} (a b : Answer) (bands nodes marks bands′ nodes′ marks′ : List ℕ)
+-- of an empty, an insert and a remove
+pub change-settled : {said : Change Memory} (a b : Answer) (bands nodes marks bands′ nodes′ marks′ : List ℕ)
     → came a bands nodes marks ≡ said → came b bands′ nodes′ marks′ ≡ said
     → (a ≡ b) × (bands ≡ bands′) × (nodes ≡ nodes′) × (marks ≡ marks′)
-empty-settled a b bands nodes marks bands′ nodes′ marks′ e f =
+change-settled a b bands nodes marks bands′ nodes′ marks′ e f =
     let same = e ∙ sym f in (
       answer-one-to-one a b (ap (λ o. o .refusal) same),
       ap (λ o. o .after .bands) same,

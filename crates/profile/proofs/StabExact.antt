@@ -14,7 +14,7 @@ use Rattle.rules.specs.BoxSaysNo.{saying, noStab, stabRefusal, stabAnswer}
 use Rattle.rules.proofs.BoxSaysNo.{stab-accepted, accepted-answers}
 use Rattle.rules.proofs.SoundMemory.{Standing}
 use Rattle.rules.proofs.Theory.MarkedOver.{standing-nodes-right}
-use Rattle.rules.proofs.Theory.MetOnce.{HeldBy, flag-where-one-holds, met-is-count, count-is-those-holding}
+use Rattle.rules.proofs.Theory.MetOnce.{HeldBy, flag-where-one-holds, met-is-count as ruled-met-is-count, count-is-those-holding}
 use Rattle.store.specs.Memory.{Memory}
 use Rattle.store.specs.SaidProfile.{saidProfile}
 use Rattle.store.specs.Sound.{sound}
@@ -39,7 +39,7 @@ exact p k s =
     record {
       flags = flag-where-one-holds p k (standing-nodes-right p s);
       count = count-is-those-holding p k s;
-      met = met-is-count p k s;
+      met = ruled-met-is-count p k s;
       looks = refl;
     }
 
@@ -50,3 +50,11 @@ module _ (m : Memory) (s : sound m ≡ true) (k : ℕ) (on-line : k ≤ highestK
 
   pub stab-exact : (stabIn m k .refusal ≡ 0) × ExactStab (saidProfile m) k (stabIn m k .read)
   stab-exact = rw accepted (refl, exact (saidProfile m) k (said-stands m s))
+
+  -- .. among it: marks met equal the count, ..
+  pub met-is-count : stabIn m k .read .met ≡ stabIn m k .read .count
+  met-is-count = stab-exact .1 .met
+
+  -- .. and the looks are 8 plus the nodes below the key with no taller node between them and it
+  pub looks-are-the-papers : stabIn m k .read .looks ≡ looks (saidProfile m) k
+  looks-are-the-papers = stab-exact .1 .looks

@@ -9,3 +9,5 @@ pub mod EdgeCall
 pub mod NodeCall
 pub mod RoomCall
 pub mod Calls
+pub mod Lines
+pub mod RuledCalls
