@@ -20,14 +20,13 @@ use Rattle.rules.proofs.HallLine.{Own, holds-whole-key-means}
 use Rattle.rules.proofs.NodesLanesEdges.{Level, is-level-means}
 use Rattle.rules.proofs.Profile.{has-number-means}
 use Rattle.rules.proofs.Faults.{NoneAbove}
-use Rattle.rules.proofs.BoxSaysNo.{scope-above-means, number-above-means, end-above-means, holds-none-means, end-elsewhere-means, level-wrong-means, number-live-means, nodes-exceed-means, marks-exceed-means, BandRight, insert-accepted}
+use Rattle.rules.proofs.BoxSaysNo.{scope-above-means, number-above-means, end-above-means, holds-none-means, end-elsewhere-means, level-wrong-means, number-live-means, nodes-exceed-means, marks-exceed-means, BandRight, insert-accepted, line-passed, line-gives}
 use Rattle.store.specs.Sizes.{sizesRight}
 use Rattle.store.specs.Memory.{Memory, lengthsIn, roomIn}
 use Rattle.store.specs.SaidProfile.{saidProfile}
 use Rattle.store.specs.Sound.{sound}
-use Rattle.store.proofs.Sound.{sound-means}
+use Rattle.store.proofs.Sound.{sound-means, unsound-means, unsound-fails}
 use Rattle.profile.specs.InsertCall.{insertIn, insertRefusalIn}
-use Rattle.profile.proofs.LowestLine.{line-passed, line-gives, unsound-means, unsound-fails}
 
 -- nothing of 1 to 7 applies to an insert
 abbrev pub InsertRight : Memory → Band → ℕ → ℕ → Type 0

@@ -19,14 +19,13 @@
 --   ByProfile         each stab and readout is a function of the profile alone
 -- What these are proved with:
 --   CallLines         what a call answers, from plain facts on memory and arguments: a law for each place where its code returns
---   LowestLine        when a number is given, line by line
 --   EmptyWords        the words that making an empty profile leaves
 --   BandOnAny         the band readout is the rules' own on the bands that the words say
 --   StabOnLaid, EdgeOnLaid, NodeOnLaid, RoomOnLaid    the calls are the rules' own where words lay a standing profile
 --   OnSound           .. and so on sound memory, on the profile that the words say
 --   AcceptedChange    what an accepted insert or remove leaves
+--   ChangeSteps, InsertSteps, RemoveSteps    an insert and a remove as their code goes about them, each call on the draft
 pub mod CallLines
-pub mod LowestLine
 pub mod EmptyWords
 pub mod BandOnAny
 pub mod Alike
@@ -37,6 +36,9 @@ pub mod EdgeOnLaid
 pub mod RoomOnLaid
 pub mod OnSound
 pub mod ByProfile
+pub mod ChangeSteps
+pub mod InsertSteps
+pub mod RemoveSteps
 pub mod EmptyExact
 pub mod CheckExact
 pub mod StabExact

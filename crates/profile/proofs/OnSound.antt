@@ -29,7 +29,8 @@ module _ (m : Memory) (s : sound m ≡ true) where
   facts : Sound m
   facts = sound-means m .fact s
 
-  in-room : SoundIn (roomIn m) (saidProfile m)
+  -- it stands, and fits the room of the memory
+  pub in-room : SoundIn (roomIn m) (saidProfile m)
   in-room = sound-in-means (roomIn m) (saidProfile m) .fact (facts .in-room)
 
   -- the profile that sound memory says stands

@@ -15,7 +15,7 @@ use Rattle.rules.specs.BoxSaysNo.{sizesWrong, numberAbove, keyAbove, notLive, n
 use Rattle.rules.proofs.Means.{itself, denied, not-means, not-fails, and-means, and-fails, lt-means, lt-fails, eq-means}
 use Rattle.rules.proofs.Lists.{Some, Each}
 use Rattle.rules.proofs.NodesLanesEdges.{level-there}
-use Rattle.rules.proofs.BoxSaysNo.{sizes-wrong-means, number-above-means, key-above-means, line-own, last-own, last-zero, line-zero, empty-accepted, room-accepted, stab-accepted, band-accepted, band-gives-9, edge-accepted, node-accepted}
+use Rattle.rules.proofs.BoxSaysNo.{sizes-wrong-means, number-above-means, key-above-means, line-own, last-own, last-zero, line-zero, empty-accepted, room-accepted, stab-accepted, band-accepted, band-gives-9, edge-accepted, node-accepted, line-passed, line-gives}
 use Rattle.store.specs.Sizes.{sizesRight}
 use Rattle.store.specs.Memory.{Memory, lengthsIn}
 use Rattle.store.specs.Places.{nodeField, levelField}
@@ -29,7 +29,6 @@ use Rattle.profile.specs.BandCall.{bandIn}
 use Rattle.profile.specs.EdgeCall.{hasLane, edgeIn, edgeRefusalIn}
 use Rattle.profile.specs.NodeCall.{nodeIn, nodeRefusalIn}
 use Rattle.profile.specs.RoomCall.{roomReadIn}
-use Rattle.profile.proofs.LowestLine.{line-passed, line-gives}
 use Rattle.profile.proofs.BandOnAny.{band-on-any}
 use Rattle.profile.proofs.OnSound.{said-stands, edge-on-sound, node-on-sound}
 use Rattle.profile.proofs.EdgeExact.{edge-refused-13, edge-exact}

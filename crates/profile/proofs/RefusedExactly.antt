@@ -3,13 +3,12 @@
 -- Assumes nothing.
 use Prim.Native.Nat.{ℕ, zero, suc}
 use mathlib.Core.Path.{_≡_, refl, subst}
-use mathlib.Core.Bool.{false}
 use mathlib.Core.Logic.{_↔_, inl, inr}
-use mathlib.Core.List.{List, [], _∷_, map}
+use mathlib.Core.List.{[], _∷_, map}
 use native.Mathlib.Omega.{arith}
-use Rattle.rules.specs.BoxSaysNo.{TableLine, lowest, emptyRefusal, insertRefusal, removeRefusal, stabRefusal, roomReadRefusal}
-use Rattle.rules.proofs.Lists.{In, Each, in-map}
-use Rattle.rules.proofs.BoxSaysNo.{Ordered, Given, lowest-zero, lowest-given}
+use Rattle.rules.specs.BoxSaysNo.{lowest, emptyRefusal, insertRefusal, removeRefusal, stabRefusal, roomReadRefusal}
+use Rattle.rules.proofs.Lists.{In, in-map}
+use Rattle.rules.proofs.BoxSaysNo.{GivenExactly, lowest-exactly}
 use Rattle.store.specs.Memory.{Memory}
 use Rattle.profile.specs.EmptyCall.{emptyIn}
 use Rattle.profile.specs.InsertCall.{insertIn, insertRefusalIn}
@@ -21,16 +20,6 @@ use Rattle.profile.specs.NodeCall.{nodeIn, nodeRefusalIn}
 use Rattle.profile.specs.RoomCall.{roomReadIn}
 use Rattle.profile.specs.Calls.{Call, emptying, inserting, removing, checking, stabbing, readingBand, readingEdge, readingNode, readingRoom}
 use Rattle.profile.specs.Lines.{refusalOf, linesOf, numbersOf}
-
--- of these lines the number is to be given: 0 where none applies, and else one of that number applies and none that applies has a lower number
-abbrev pub GivenExactly : ℕ → List TableLine → Type 0
-GivenExactly zero ls = Each (λ l. l .applies ≡ false) ls
-GivenExactly (suc n) ls = Given ls (suc n)
-
--- so it is of lines in order
-lowest-exactly : (ls : List TableLine) → Ordered 1 ls → (n : ℕ) → (lowest ls ≡ n) ↔ GivenExactly n ls
-lowest-exactly ls o zero = lowest-zero ls o
-lowest-exactly ls o (suc n) = lowest-given ls o (suc n) (omega arith)
 
 pub refused-exactly : (m : Memory) (c : Call) (n : ℕ) → (refusalOf m c ≡ n) ↔ GivenExactly n (linesOf m c)
 unfolding emptyIn emptyRefusal insertIn insertRefusalIn insertRefusal removeIn removeRefusalIn removeRefusal stabIn stabRefusal bandIn bandRefusalIn edgeIn edgeRefusalIn nodeIn nodeRefusalIn roomReadIn roomReadRefusal

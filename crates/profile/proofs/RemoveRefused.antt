@@ -15,14 +15,13 @@ use Rattle.rules.specs.BoxSaysNo.{TableLine, lowest, notSound, scopeAbove, numb
 use Rattle.rules.proofs.Means.{not-fails, lt-fails, eq-means, implies-fails}
 use Rattle.rules.proofs.Lists.{Some, Each, any-fails}
 use Rattle.rules.proofs.Profile.{has-number-means, is-live-means}
-use Rattle.rules.proofs.BoxSaysNo.{scope-above-means, number-above-means, number-not-live-means, scope-other-means, marks-exceed-means, remove-accepted}
+use Rattle.rules.proofs.BoxSaysNo.{scope-above-means, number-above-means, number-not-live-means, scope-other-means, marks-exceed-means, remove-accepted, line-passed, line-gives}
 use Rattle.store.specs.Sizes.{sizesRight}
 use Rattle.store.specs.Memory.{Memory, lengthsIn, roomIn}
 use Rattle.store.specs.SaidProfile.{saidProfile}
 use Rattle.store.specs.Sound.{sound}
-use Rattle.store.proofs.Sound.{sound-means}
+use Rattle.store.proofs.Sound.{sound-means, unsound-means, unsound-fails}
 use Rattle.profile.specs.RemoveCall.{removeIn, removeRefusalIn}
-use Rattle.profile.proofs.LowestLine.{line-passed, line-gives, unsound-means, unsound-fails}
 
 -- nothing of 1 to 3 applies to a remove
 abbrev pub RemoveRight : Memory → ℕ → ℕ → Type 0

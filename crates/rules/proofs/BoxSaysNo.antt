@@ -17,7 +17,7 @@ use Rattle.rules.specs.Marks.{marksInUse}
 use Rattle.rules.specs.Changes.{inserted, removed}
 use Rattle.rules.specs.Room.{Room, roomInRange}
 use Rattle.rules.specs.BoxSaysNo.{TableLine, lowest, sizesWrong, notSound, scopeAbove, numberAbove, keyAbove, endAbove, holdsNone, endElsewhere, levelWrong, numberLive, numberNotLive, scopeOther, nodesExceed, marksExceed, notThere, bandLines, insertLines, removeLines, stabLines, bandReadLines, edgeReadLines, nodeReadLines, keyFault, bandFault, faultOf, insertRefusal, removeRefusal, emptyRefusal, stabRefusal, bandReadRefusal, edgeReadRefusal, nodeReadRefusal, roomReadRefusal, changed, emptyOutcome, insertOutcome, removeOutcome, saying, answered}
-use Rattle.rules.proofs.Means.{Means, Fails, never, reworded, itself, denied, not-means, not-fails, and-means, and-fails, and3-means, or-means, or-fails, implies-fails, lt-means, lt-fails, le-means, le-fails, eq-means}
+use Rattle.rules.proofs.Means.{Means, Fails, never, passes-or-fails, reworded, itself, denied, not-means, not-fails, and-means, and-fails, and3-means, or-means, or-fails, implies-fails, lt-means, lt-fails, le-means, le-fails, eq-means}
 use Rattle.rules.proofs.Lists.{Some, Each, some-cons, each-cons, any-means, any-fails}
 use Rattle.rules.proofs.HallLine.{Own, own-key-means, holds-whole-key-means}
 use Rattle.rules.proofs.NodesLanesEdges.{Level, is-level-means, NodeAt, NoNodeAt, stands-at-means}
@@ -210,6 +210,41 @@ lowest-given ls o n h = (λ e. subst (Given ls) e (given 1 ls o (λ z. omega ari
         let a = g .1 (g′ .0 .0) (g′ .0 .1) (g′ .0 .2 .0) in
         let b = g′ .1 (g .0 .0) (g .0 .1) (g .0 .2 .0) in
         omega arith
+
+-- of these lines the number is to be given: 0 where none applies, and else one of that number applies and none that applies has a lower number
+abbrev pub GivenExactly : ℕ → List TableLine → Type 0
+GivenExactly zero ls = Each (λ l. l .applies ≡ false) ls
+GivenExactly (suc n) ls = Given ls (suc n)
+
+-- so it is of lines in order
+pub lowest-exactly : (ls : List TableLine) → Ordered 1 ls → (n : ℕ) → (lowest ls ≡ n) ↔ GivenExactly n ls
+lowest-exactly ls o zero = lowest-zero ls o
+lowest-exactly ls o (suc n) = lowest-given ls o (suc n) (omega arith)
+
+-- a number above a line's own is given exactly when the line does not apply and the lines after it give the number
+pub line-passed : {X Y : Type 0} {s : ℕ} (l : TableLine) (ls : List TableLine) → l .refusal < s → Fails (l .applies) X → (lowest ls ≡ s) ↔ Y
+    → (lowest (l ∷ ls) ≡ s) ↔ (X × Y)
+line-passed {s} l ls h f e = line-other (l .refusal) s (λ z. omega arith) f e
+
+-- lines of higher numbers do not give a number
+not-higher : (r c : ℕ) (ls : List TableLine) → 0 < r → r < c → Ordered c ls → lowest ls ≡ r → ⊥
+not-higher r c [] p h o z = omega arith
+not-higher r c (l ∷ ls) p h o z = go (l .applies) refl (not-higher r (l .refusal) ls p (omega arith) (o .1))
+  where
+    go : (t : Bool) → l .applies ≡ t → (lowest ls ≡ r → ⊥) → ⊥
+    go true e ih = let y = lowest-here l ls e in omega arith
+    go false e ih = ih (sym (lowest-next l ls e) ∙ z)
+
+-- before lines of higher numbers a line gives its own exactly when it applies
+pub line-gives : {X : Type 0} (l : TableLine) (ls : List TableLine) → 0 < l .refusal → Ordered (suc (l .refusal)) ls → Means (l .applies) X
+    → (lowest (l ∷ ls) ≡ l .refusal) ↔ X
+line-gives l ls p o f = (
+  λ z. ⊎-elim (f .fact) (λ e. absurd (after (sym (lowest-next l ls e) ∙ z))) (passes-or-fails (l .applies)),
+  λ x. lowest-here l ls (f .test x),
+)
+  where
+    after : lowest ls ≡ l .refusal → ⊥
+    after = not-higher (l .refusal) (suc (l .refusal)) ls p (omega arith) o
 
 -- The lines of each call stand in order, so that `lowest-zero` and `lowest-given` say exactly when it gives 0 and each number.
 module _ (sizesRight sound : Bool) (room : Room) (p : Profile) where

@@ -526,3 +526,13 @@ module _ {A : Type 0} (number : A → ℕ) where
       go : (t : Bool) → keep f (placed number x ys) ≡ keep f ys → keep f (cond t (x ∷ y ∷ ys) (y ∷ placed number x ys)) ≡ keep f (y ∷ ys)
       go true ih = rw e
       go false ih = ap (addIf (f y) y) ih
+
+  -- who is placed is one more
+  pub length-placed : (x : A) (xs : List A) → length (placed number x xs) ≡ suc (length xs)
+  length-placed x [] = refl
+  length-placed x (y ∷ ys) = go (ltb (number x) (number y)) (length-placed x ys)
+    where
+      go : (t : Bool) → length (placed number x ys) ≡ suc (length ys)
+          → length (cond t (x ∷ y ∷ ys) (y ∷ placed number x ys)) ≡ suc (suc (length ys))
+      go true e = refl
+      go false e = ap suc e

@@ -8,14 +8,14 @@ use mathlib.Core.Bool.{Bool, true, false, cond}
 use mathlib.Core.Logic.{_↔_, Iff·trans, _⊎_, inl, inr, ⊎-elim, ⊎-map}
 use mathlib.Core.List.{List, [], _∷_}
 use native.Mathlib.Omega.{arith}
-use lib.ListN.{drop}
+use lib.ListN.{length, drop}
 use borrow.Author.Tests.{eq-eqb, ne-eqb, le-ltb}
 use Rattle.rules.specs.Connectives.{_or_}
 use Rattle.rules.specs.Lists.{addIf, placed}
 use Rattle.rules.specs.HallLine.{Band}
 use Rattle.rules.specs.NodesLanesEdges.{Node, Edge, edgeOf, lanes, isLevel, takesPart, laneOf, edgesFrom, edgesAlong, edgesIn, levelAt, standsAt, isEnd, isEndOfSome, endsStand, onlyEndsStand, nodeOf, withNode}
 use Rattle.rules.proofs.Means.{Means, reworded, denied, and-means, or-means, lt-means, le-means, eq-means}
-use Rattle.rules.proofs.Lists.{some-or-none, in-at-place, in-placed, placed-ascends, placed-first, ascends-from, In, Some, Each, each-cons, any-means, all-means, in-made, Ascends, ascends-lower, ascends-from}
+use Rattle.rules.proofs.Lists.{some-or-none, in-at-place, in-placed, placed-ascends, placed-first, length-placed, ascends-from, In, Some, Each, each-cons, any-means, all-means, in-made, Ascends, ascends-lower, ascends-from}
 
 -- a level is 1 to 8
 abbrev pub Level : ℕ → Type 0
@@ -255,3 +255,12 @@ made-after k l n ns h = rw (ne-eqb (n .key) k (λ e. omega arith), le-ltb k (n .
 pub made-first : (k l : ℕ) (ns : List Node) → Asc (suc k) ns → withNode k l ns ≡ nodeOf k l ∷ ns
 made-first k l ns a =
     node-placed k l ns (λ n i e. omega (arith, ascends-from (λ m. m .key) (suc k) ns a n i)) ∙ placed-first (λ m. m .key) (nodeOf k l) ns a
+
+-- a node made at a key is at most one more
+pub with-node-length : (k l : ℕ) (ns : List Node) → length (withNode k l ns) ≤ suc (length ns)
+unfolding withNode
+with-node-length k l ns = go (standsAt k ns)
+  where
+    go : (t : Bool) → length (cond t ns (placed (λ n. n .key) (nodeOf k l) ns)) ≤ suc (length ns)
+    go true = omega arith
+    go false = omega (arith, length-placed (λ n. n .key) (nodeOf k l) ns)

@@ -8,19 +8,27 @@ use mathlib.Core.Logic.{inl, inr, ⊎-elim, ⊎-map}
 use native.Mathlib.Omega.{arith}
 use lib.ListN.{length}
 use Rattle.rules.specs.HallLine.{Band}
+use Rattle.rules.specs.NodesLanesEdges.{isEndOfSome}
 use Rattle.rules.specs.Profile.{Profile, emptyProfile, hasNumber}
 use Rattle.rules.specs.Marks.{marksInUse}
-use Rattle.rules.specs.Changes.{inserted, withoutWhere, removed}
+use Rattle.rules.specs.Changes.{inserted, nodesAtEnds, withoutWhere, removed}
 use Rattle.rules.specs.Room.{Room, roomInRange}
 use Rattle.rules.specs.BoxSaysNo.{emptyRefusal, emptyOutcome, insertOutcome, removeOutcome}
 use Rattle.rules.specs.SoundMemory.{standing, soundIn}
 use Rattle.rules.specs.Computes.{computes}
 use Rattle.rules.proofs.Means.{itself}
-use Rattle.rules.proofs.Lists.{In, Each}
-use Rattle.rules.proofs.NodesLanesEdges.{Level, NodeAt, EndOf}
+use Rattle.rules.proofs.Lists.{In, Each, keep-all}
+use Rattle.rules.proofs.NodesLanesEdges.{Level, NodeAt, EndOf, is-end-of-some-means}
 use Rattle.rules.proofs.Changes.{at-with-ends, in-with-ends, with-ends-ascend, in-inserted-bands, inserted-bands-ascend, in-bands-left, in-nodes-left, bands-left-ascend, nodes-left-ascend, removed-nodes-no-more}
 use Rattle.rules.proofs.BoxSaysNo.{room-in-range-means, BandRight, InsertAccepted, empty-accepted, accepted-changes, empty-keeps, insert-keeps, remove-keeps}
 use Rattle.rules.proofs.SoundMemory.{Standing, standing-means, Fitting, SoundIn, sound-in-means}
+
+-- all nodes of a standing profile are at ends
+pub all-at-ends : (p : Profile) → Standing p → nodesAtEnds (p .bands) (p .nodes) ≡ p .nodes
+unfolding nodesAtEnds
+all-at-ends p s =
+    keep-all (λ n. isEndOfSome (p .bands) (n .key)) (p .nodes)
+    (λ n i. is-end-of-some-means (p .bands) (n .key) .test (s .only-ends-stand n i))
 
 -- ---- the profile after a call that is accepted
 
