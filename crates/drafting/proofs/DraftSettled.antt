@@ -1,13 +1,13 @@
 -- A completed draft copied into memory, and its marks laid from their starts, is the one memory of the profile that it says; and what comes of a
 -- draft that 11 or 12 refuses, and of one that neither does.
 -- Assumes nothing.
-use Prim.Native.Nat.{ℕ, _+_, _-_, _*_, _/_, _≤_, _<_, _^_}
+use Prim.Native.Nat.{ℕ, _+_, _-_, _*_, _/_, _≤_, _<_}
 use mathlib.Core.Path.{_≡_, sym, _∙_, ap}
 use mathlib.Core.Bool.{true}
 use mathlib.Core.Logic.{_↔_}
 use mathlib.Core.List.{List}
 use native.Mathlib.Omega.{arith}
-use lib.ListN.{length, take, replicate, length-replicate}
+use lib.ListN.{length, take, replicate}
 use lib.Seq.{take-all}
 use borrow.Author.Tests.{ne-eqb}
 use Rattle.rules.specs.Profile.{Profile, profileOf}
@@ -63,13 +63,6 @@ module _
 
     pub drafted-within : inUse draftNodes ≤ mostNodes
     drafted-within = omega (arith, said-nodes-length draftNodes, nodes-within)
-
-    -- the marks are few enough to count, also once they are cleared
-    pub cleared-within : (cleared : List ℕ) → cleared ≡ replicate (length marks) 0 → length cleared < 2 ^ 32
-    cleared-within cleared z =
-        let size = sizes-in-numbers (length bands) (length nodes) (length marks) .fact sizes in
-        let as-many : length cleared ≡ length marks = ap length z ∙ length-replicate (length marks) 0 in
-        omega arith
 
     -- the node words are whole places, and there are more of them in the draft
     whole-places : nodePlaceWords * (length nodes / nodePlaceWords - 1 + 1) ≡ length nodes

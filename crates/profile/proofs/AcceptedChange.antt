@@ -29,14 +29,14 @@ kept-or-left P refusal m w before after =
     change-keeps P refusal m w before (λ z. subst P (accepted-changes refusal m w z) (after z))
 
 -- what stands after an accepted change of m: memory w, which says the profile p
-pub record Left (m : Memory) (p : Profile) (w : Memory) : Type 0 where
+pub record LeavesSound (m : Memory) (p : Profile) (w : Memory) : Type 0 where
   pub was-sound : sound m ≡ true
   pub is-sound : sound w ≡ true
   pub says : saidProfile w ≡ p
   pub same-lengths : lengthsIn w ≡ lengthsIn m
 
 -- the one memory of a profile that may soundly stand in the room of a sound memory
-laid-left : (m : Memory) (p : Profile) (w : Memory) → sound m ≡ true → soundIn (roomIn m) p ≡ true → w ≡ laidMemory (roomIn m) p → Left m p w
+laid-left : (m : Memory) (p : Profile) (w : Memory) → sound m ≡ true → soundIn (roomIn m) p ≡ true → w ≡ laidMemory (roomIn m) p → LeavesSound m p w
 unfolding roomIn
 laid-left m p w s fits e =
     let sizes = right-lengths (lengthsIn m) (sound-means m .fact s .sizes) in
@@ -74,7 +74,7 @@ module _ (m : Memory) (b : Band) (lo hi : ℕ) (accepted : insertIn m b lo hi .r
       subst (λ q. soundIn (roomIn m) q ≡ true) (accepted-changes (insertRefusalIn m b lo hi) p (inserted p b lo hi) accepted)
       (insert-keeps-sound (sizesRight (lengthsIn m)) (sound m) (roomIn m) p b lo hi was)
 
-  pub insert-leaves : Left m (inserted (saidProfile m) b lo hi) (insertIn m b lo hi .after)
+  pub insert-leaves : LeavesSound m (inserted (saidProfile m) b lo hi) (insertIn m b lo hi .after)
   unfolding insertIn
   insert-leaves =
       let q = inserted (saidProfile m) b lo hi in
@@ -96,7 +96,7 @@ module _ (m : Memory) (number scope : ℕ) (accepted : removeIn m number scope .
       subst (λ q. soundIn (roomIn m) q ≡ true) (accepted-changes (removeRefusalIn m number scope) p (removed p number) accepted)
       (remove-keeps-sound (sizesRight (lengthsIn m)) (sound m) (roomIn m) p number scope was)
 
-  pub remove-leaves : Left m (removed (saidProfile m) number) (removeIn m number scope .after)
+  pub remove-leaves : LeavesSound m (removed (saidProfile m) number) (removeIn m number scope .after)
   unfolding removeIn
   remove-leaves =
       let q = removed (saidProfile m) number in

@@ -19,7 +19,7 @@ use Rattle.profile.specs.StabCall.{stabIn}
 use Rattle.profile.specs.InsertCall.{insertIn}
 use Rattle.profile.specs.RemoveCall.{removeIn}
 use Rattle.profile.proofs.OnSound.{said-stands, stab-on-sound}
-use Rattle.profile.proofs.AcceptedChange.{Left, insert-leaves-so, remove-leaves-so, insert-leaves, remove-unrefused, remove-leaves}
+use Rattle.profile.proofs.AcceptedChange.{LeavesSound, insert-leaves-so, remove-leaves-so, insert-leaves, remove-unrefused, remove-leaves}
 
 -- a stab of the one memory and of the other answers the same at a key, but for the looks
 pub record SameStab (m w : Memory) (k : ℕ) : Type 0 where
@@ -29,13 +29,13 @@ pub record SameStab (m w : Memory) (k : ℕ) : Type 0 where
   pub met : stabIn w k .read .met ≡ stabIn m k .read .met
 
 -- at every key of every machine other than `scope`, if that is a machine
-abbrev pub OthersUntouched : ℕ → Memory → Memory → Type 0
-OthersUntouched scope m w =
+abbrev pub OthersStabbedAlike : ℕ → Memory → Memory → Type 0
+OthersStabbedAlike scope m w =
     scope < machines → (n : ℕ) → n < machines → (n ≡ scope → ⊥) → (k : ℕ) → ownKey n k ≡ true → SameStab m w k
 
--- nothing is touched where nothing changes
-unchanged-untouched : (scope : ℕ) (m : Memory) → OthersUntouched scope m m
-unchanged-untouched scope m l n below off k own = record { refusal = refl; flags = refl; count = refl; met = refl }
+-- where nothing changes all stabs are the same
+unchanged-alike : (scope : ℕ) (m : Memory) → OthersStabbedAlike scope m m
+unchanged-alike scope m l n below off k own = record { refusal = refl; flags = refl; count = refl; met = refl }
 
 -- profiles that answer alike are stabbed alike
 alike-stabs : (m w : Memory) (p q : Profile) (k : ℕ) → stabIn m k ≡ stabAnswer true p k → stabIn w k ≡ stabAnswer true q k
@@ -56,8 +56,8 @@ alike-stabs m w p q k before after same = go (eqb (stabRefusal true k) 0) refl
         record { refusal = rw (before, after); flags = rw (before, after, e); count = rw (before, after, e); met = rw (before, after, e) }
 
 -- an accepted change after which only bands of that scope have come or gone
-left-untouched : (scope : ℕ) (m : Memory) (p : Profile) (w : Memory) → Left m p w → DifferOnlyIn scope (saidProfile m) p → OthersUntouched scope m w
-left-untouched scope m p w left only l n below off k own =
+left-alike : (scope : ℕ) (m : Memory) (p : Profile) (w : Memory) → LeavesSound m p w → DifferOnlyIn scope (saidProfile m) p → OthersStabbedAlike scope m w
+left-alike scope m p w left only l n below off k own =
     let before = said-stands m (left .was-sound) in
     let after = said-stands w (left .is-sound) in
     let differ = subst (DifferOnlyIn scope (saidProfile m)) (sym (left .says)) only in
@@ -66,14 +66,14 @@ left-untouched scope m p w left only l n below off k own =
     (others-alike scope (saidProfile m) (saidProfile w) before after differ l n below off k own))
 
 module _ (m : Memory) where
-  pub insert-alone : (b : Band) (lo hi : ℕ) → OthersUntouched (b .scope) m (insertIn m b lo hi .after)
+  pub insert-alone : (b : Band) (lo hi : ℕ) → OthersStabbedAlike (b .scope) m (insertIn m b lo hi .after)
   insert-alone b lo hi =
-      insert-leaves-so (OthersUntouched (b .scope) m) m b lo hi (unchanged-untouched (b .scope) m)
-      (λ z. left-untouched (b .scope) m (inserted (saidProfile m) b lo hi) (insertIn m b lo hi .after) (insert-leaves m b lo hi z)
+      insert-leaves-so (OthersStabbedAlike (b .scope) m) m b lo hi (unchanged-alike (b .scope) m)
+      (λ z. left-alike (b .scope) m (inserted (saidProfile m) b lo hi) (insertIn m b lo hi .after) (insert-leaves m b lo hi z)
       (insert-keeps-others (saidProfile m) b lo hi (λ c. c .scope ≡ b .scope) refl))
 
-  pub remove-alone : (number scope : ℕ) → OthersUntouched scope m (removeIn m number scope .after)
+  pub remove-alone : (number scope : ℕ) → OthersStabbedAlike scope m (removeIn m number scope .after)
   remove-alone number scope =
-      remove-leaves-so (OthersUntouched scope m) m number scope (unchanged-untouched scope m)
-      (λ z. left-untouched scope m (removed (saidProfile m) number) (removeIn m number scope .after) (remove-leaves m number scope z)
+      remove-leaves-so (OthersStabbedAlike scope m) m number scope (unchanged-alike scope m)
+      (λ z. left-alike scope m (removed (saidProfile m) number) (removeIn m number scope .after) (remove-leaves m number scope z)
       (remove-keeps-others (saidProfile m) number (λ c. c .scope ≡ scope) (remove-unrefused m number scope z .scope-same)))

@@ -1,5 +1,5 @@
 -- From an empty profile in any memory of right sizes, after any calls: memory is, to the last word, the one memory of the profile that the rules
--- themselves come to by those calls. So every accepted insert is in what the words say, and nothing else is.
+-- themselves come to by those calls. So every band inserted, and neither removed nor emptied since, is in what the words say, and no other.
 -- Assumes nothing.
 use Prim.Native.Nat.{ℕ, zero, suc}
 use mathlib.Core.Path.{_≡_, refl, sym, _∙_, ap}

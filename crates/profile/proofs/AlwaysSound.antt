@@ -1,5 +1,6 @@
--- From an empty profile in any memory of right sizes, after any calls: memory is sound, and in the edge and node readouts a number is flagged exactly
--- where the rule marks a live band of that number, for every node, lane, edge and number; marks in use are the rule's own count.
+-- From an empty profile in any memory of right sizes, after any calls: memory is sound, the profile that it says stands, a stab flags exactly the live
+-- bands that hold the key, and in the edge and node readouts a number is flagged exactly where the rule marks a live band of that number, for every
+-- node, lane, edge and number; marks in use are the rule's own count.
 -- Assumes nothing.
 use Prim.Native.Nat.{ℕ, _≤_}
 use mathlib.Core.Path.{_≡_, refl, _∙_}
@@ -7,10 +8,11 @@ use mathlib.Core.Bool.{true}
 use mathlib.Core.Logic.{_↔_}
 use mathlib.Core.List.{List, [], _∷_}
 use mathlib.Core.Option.{some}
-use Rattle.rules.specs.HallLine.{highestBandNumber}
+use Rattle.rules.specs.HallLine.{highestKey, highestBandNumber}
 use Rattle.rules.specs.Readouts.{bandReadOf}
 use Rattle.rules.specs.BoxSaysNo.{saying}
 use Rattle.rules.proofs.Lists.{Each}
+use Rattle.rules.proofs.SoundMemory.{Standing}
 use Rattle.store.specs.Sizes.{sizesRight}
 use Rattle.store.specs.Memory.{Memory, lengthsIn}
 use Rattle.store.specs.SaidProfile.{saidProfile}
@@ -18,8 +20,11 @@ use Rattle.store.specs.Sound.{sound}
 use Rattle.store.proofs.Sound.{sound-means}
 use Rattle.profile.specs.EmptyCall.{emptyIn}
 use Rattle.profile.specs.BandCall.{bandIn}
+use Rattle.profile.specs.StabCall.{stabIn}
 use Rattle.profile.specs.Calls.{Call, afterCall, afterCalls}
+use Rattle.profile.proofs.OnSound.{said-stands}
 use Rattle.profile.proofs.EmptyExact.{empty-makes}
+use Rattle.profile.proofs.StabExact.{ExactStab, stab-exact}
 use Rattle.profile.proofs.BandExact.{band-exact, band-refused-9}
 use Rattle.profile.proofs.MarkedByRule.{MarkedByRule, marked-by-rule}
 use Rattle.profile.proofs.KeepsSound.{keeps-sound, keeps-lengths}
@@ -30,12 +35,16 @@ pub record Kept (m w : Memory) : Type 0 where
   pub is-sound : sound w ≡ true
   -- and as long as it was
   pub same-lengths : lengthsIn w ≡ lengthsIn m
-  -- its live bands are those that the band readout gives, each as it stands, and at every other number 9 is given
+  -- its live bands are those that the band readout gives, each as it stands, and at every other number up to 1,023 9 is given
   pub bands : Each (λ b. bandIn w (b .number) ≡ saying 0 (bandReadOf (some b))) (saidProfile w .bands)
   pub no-other-band : (number : ℕ) → number ≤ highestBandNumber
       → (bandIn w number .refusal ≡ 9) ↔ Each (λ b. b .number ≡ number → ⊥) (saidProfile w .bands)
   -- its readouts show exactly the marks that the rule gives, and their number
   pub marked : MarkedByRule w
+  -- nodes stand at each end of a live band and nowhere else, in key order, with levels 1 to 8; live bands are right by themselves, in number order
+  pub stands : Standing (saidProfile w)
+  -- at every key of the line a stab flags exactly the live bands that hold it; marks met equal the count, and the looks are the paper's
+  pub stabs : (k : ℕ) → k ≤ highestKey → (stabIn w k .refusal ≡ 0) × ExactStab (saidProfile w) k (stabIn w k .read)
 
 -- a sound memory of the same lengths is such
 kept : (m w : Memory) → lengthsIn w ≡ lengthsIn m → sound w ≡ true → Kept m w
@@ -47,6 +56,8 @@ kept m w l s =
       bands = band-exact w right;
       no-other-band = band-refused-9 w right;
       marked = marked-by-rule w s;
+      stands = said-stands w s;
+      stabs = stab-exact w s;
     }
 
 calls-keep-sound : (w : Memory) → sound w ≡ true → (cs : List Call) → sound (afterCalls w cs) ≡ true

@@ -1,5 +1,5 @@
--- The band readout on memory of right sizes, sound or not, in plain words: a live band is read as it stands, and 9 is given exactly where
--- the number is not live.
+-- The band readout on memory of right sizes, sound or not, in plain words: a live band is read as it stands, and of the numbers up
+-- to 1,023 9 is given exactly where one is not live.
 -- Assumes nothing.
 use Prim.Native.Nat.{ℕ, _≤_}
 use mathlib.Core.Path.{_≡_, refl, _∙_, ap}

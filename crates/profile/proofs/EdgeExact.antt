@@ -1,5 +1,5 @@
--- The edge readout on sound memory, in plain words: 13 is given exactly where no node stands at the key or the node there has no such lane;
--- of a node and a lane of its own the key is read that the lane's edge leads to, or none, and the flags of the live bands marked on that edge.
+-- The edge readout on sound memory, in plain words: at a key on the line 13 is given exactly where no node stands or the node there has no such
+-- lane; of a node and a lane of its own the key is read that the lane's edge leads to, or none, and the flags of the live bands marked on that edge.
 -- Assumes nothing.
 use Prim.Native.Nat.{ℕ, _≤_, _<_}
 use mathlib.Core.Path.{_≡_, refl, _∙_}

@@ -23,7 +23,7 @@ use Rattle.profile.specs.InsertCall.{insertIn}
 use Rattle.profile.specs.RemoveCall.{removeIn}
 use Rattle.profile.proofs.OnSound.{node-on-sound}
 use Rattle.profile.proofs.NodeExact.{node-exact}
-use Rattle.profile.proofs.AcceptedChange.{Left, insert-leaves-so, remove-leaves-so, insert-leaves, remove-leaves}
+use Rattle.profile.proofs.AcceptedChange.{LeavesSound, insert-leaves-so, remove-leaves-so, insert-leaves, remove-leaves}
 
 -- ---- a node that stands before and after
 
@@ -46,7 +46,7 @@ node-level : (m : Memory) → sound m ≡ true → (n : Node) → In n (saidProf
 node-level m s n i = node-exact m s n i .1 .level
 
 -- where a node of both stands at the key
-left-level-stays : (m : Memory) (p : Profile) (w : Memory) → Left m p w
+left-level-stays : (m : Memory) (p : Profile) (w : Memory) → LeavesSound m p w
     → ((k : ℕ) → NodeAt k (saidProfile m .nodes) → NodeAt k (p .nodes) → Some (λ n. (n .key ≡ k) × In n (p .nodes)) (saidProfile m .nodes))
     → LevelsStay m w
 left-level-stays m p w left both k before after =

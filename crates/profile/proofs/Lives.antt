@@ -24,7 +24,7 @@ use Rattle.profile.specs.InsertCall.{insertIn}
 use Rattle.profile.specs.RemoveCall.{removeIn}
 use Rattle.profile.proofs.OnSound.{said-stands, band-on-sound}
 use Rattle.profile.proofs.BandExact.{band-exact}
-use Rattle.profile.proofs.AcceptedChange.{Left, insert-leaves-so, remove-leaves-so, insert-leaves, remove-unrefused, remove-leaves}
+use Rattle.profile.proofs.AcceptedChange.{LeavesSound, insert-leaves-so, remove-leaves-so, insert-leaves, remove-unrefused, remove-leaves}
 
 -- ---- no other band changes
 
@@ -56,7 +56,7 @@ module _ (p q : Profile) (n : ℕ) (before : NumbersAsc 0 (p .bands)) (after : N
 abbrev pub OthersLive : ℕ → Memory → Memory → Type 0
 OthersLive n m w = (number : ℕ) → (number ≡ n → ⊥) → bandIn w number ≡ bandIn m number
 
-left-others-live : (n : ℕ) (m : Memory) (p : Profile) (w : Memory) → Left m p w → SameBut (λ b. b .number ≡ n) (saidProfile m) p → OthersLive n m w
+left-others-live : (n : ℕ) (m : Memory) (p : Profile) (w : Memory) → LeavesSound m p w → SameBut (λ b. b .number ≡ n) (saidProfile m) p → OthersLive n m w
 left-others-live n m p w left only number other =
     let before = said-stands m (left .was-sound) .numbers-ascend in
     let after = said-stands w (left .is-sound) .numbers-ascend in

@@ -16,7 +16,7 @@ use Rattle.rules.specs.Changes.{inserted, removed}
 use Rattle.rules.specs.Flags.{flagCount, flagAt}
 use Rattle.rules.specs.Readouts.{EdgeRead, NodeRead, edgeRead, nodeRead}
 use Rattle.rules.specs.BoxSaysNo.{answered, noFlags, noEdgeRead, noNodeRead, edgeReadRefusal, edgeReadAnswer, nodeReadRefusal, nodeReadAnswer}
-use Rattle.rules.specs.Reach.{presentBoth, madeOrDropped, stretchOf}
+use Rattle.rules.specs.Reach.{presentBoth, madeOrDropped}
 use Rattle.rules.proofs.Means.{never}
 use Rattle.rules.proofs.Lists.{In, Some, Each}
 use Rattle.rules.proofs.NodesLanesEdges.{NodeAt, in-lane, edge-rule, level-there}
@@ -25,7 +25,8 @@ use Rattle.rules.proofs.Marks.{in-marked-on-edge, in-marked-on-node}
 use Rattle.rules.proofs.Flags.{flag-set-where-in, flags-of-none}
 use Rattle.rules.proofs.BoxSaysNo.{edge-accepted, node-accepted, refused-zeros}
 use Rattle.rules.proofs.Changes.{insert-keeps-others, remove-keeps-others}
-use Rattle.rules.proofs.Reach.{LiesIn, StrictlyInside, KeepsMarks, reaches-only-stretches-means}
+use Rattle.rules.proofs.Reach.{KeepsMarks, reaches-only-stretches-means}
+use Rattle.rules.proofs.Theory.Stretches.{Clear, ClearAt}
 use Rattle.rules.proofs.Theory.StretchesOfCalls.{only-stretches-reached}
 use Rattle.store.specs.Memory.{Memory}
 use Rattle.store.specs.SaidProfile.{saidProfile}
@@ -38,24 +39,17 @@ use Rattle.profile.specs.RemoveCall.{removeIn}
 use Rattle.profile.proofs.OnSound.{said-stands, edge-on-sound, node-on-sound}
 use Rattle.profile.proofs.EdgeExact.{ExactEdge, edge-exact}
 use Rattle.profile.proofs.NodeExact.{node-exact}
-use Rattle.profile.proofs.AcceptedChange.{Left, insert-leaves-so, remove-leaves-so, insert-leaves, remove-leaves}
+use Rattle.profile.proofs.AcceptedChange.{LeavesSound, insert-leaves-so, remove-leaves-so, insert-leaves, remove-leaves}
 
 -- ---- what is kept from one memory to another
 
--- the edge from x to y lies in no stretch of a node made or dropped
-abbrev pub EdgeClear : List Node → List Node → ℕ → ℕ → Type 0
-EdgeClear both touched x y = Some (λ n. LiesIn (edgeOf x y) (stretchOf both n)) touched → ⊥
-
--- the key is strictly inside no such stretch
-abbrev pub NodeClear : List Node → List Node → ℕ → Type 0
-NodeClear both touched k = Some (λ n. StrictlyInside k (stretchOf both n)) touched → ⊥
-
--- the number's marks outside the stretches are read in the one memory and, of the same edge or node, in the other
+-- the number's marks on edges that lie in no stretch of a node made or dropped, and on nodes strictly inside none, are read in the one memory and, of
+-- the same edge or node, in the other
 pub record MarksKept (both touched : List Node) (number : ℕ) (m w : Memory) : Type 0 where
-  pub on-edge : (x y lane : ℕ) → EdgeClear both touched x y
+  pub on-edge : (x y lane : ℕ) → Clear both touched (edgeOf x y)
       → edgeIn m x lane .read .next ≡ some y → flagAt (edgeIn m x lane .read .flags) number ≡ 1
       → (edgeIn w x lane .read .next ≡ some y) × (flagAt (edgeIn w x lane .read .flags) number ≡ 1)
-  pub on-node : (k : ℕ) → NodeClear both touched k → flagAt (nodeIn m k .read .flags) number ≡ 1
+  pub on-node : (k : ℕ) → ClearAt both touched k → flagAt (nodeIn m k .read .flags) number ≡ 1
       → (nodeIn w k .refusal ≡ 0) × (flagAt (nodeIn w k .read .flags) number ≡ 1)
 
 -- both ways, for every number but the call's, and the nodes that the two memories say
@@ -132,7 +126,7 @@ module _ (both touched : List Node) (m w : Memory) (s : sound m ≡ true) (t : s
   marks-kept : MarksKept both touched number m w
   marks-kept = record { on-edge = on-edge; on-node = on-node }
     where
-      on-edge : (x y lane : ℕ) → EdgeClear both touched x y
+      on-edge : (x y lane : ℕ) → Clear both touched (edgeOf x y)
           → edgeIn m x lane .read .next ≡ some y → flagAt (edgeIn m x lane .read .flags) number ≡ 1
           → (edgeIn w x lane .read .next ≡ some y) × (flagAt (edgeIn w x lane .read .flags) number ≡ 1)
       on-edge x y lane clear next flag =
@@ -149,14 +143,14 @@ module _ (both touched : List Node) (m w : Memory) (s : sound m ≡ true) (t : s
           let leads-there = after .leads y .1 (kept .0) in
           (leads-there, after .flags y number leads-there h .1 (in-marked-on-edge (saidProfile w) number lane (edgeOf x y) .0 (kept .1)))
 
-      on-node : (k : ℕ) → NodeClear both touched k → flagAt (nodeIn m k .read .flags) number ≡ 1
+      on-node : (k : ℕ) → ClearAt both touched k → flagAt (nodeIn m k .read .flags) number ≡ 1
           → (nodeIn w k .refusal ≡ 0) × (flagAt (nodeIn w k .read .flags) number ≡ 1)
       on-node k clear flag =
           let n = node-flagged m s k number h flag in
           let marked = marked-on-node m s k number h n .1 .0 flag in
           let band = in-marked-on-node (saidProfile m) number k .0 marked in
           let kept = subst
-          (λ x. NodeClear both touched x → NodeAt x (saidProfile m .nodes) × In number (markedOnNode (saidProfile m) x)
+          (λ x. ClearAt both touched x → NodeAt x (saidProfile m .nodes) × In number (markedOnNode (saidProfile m) x)
           → NodeAt x (saidProfile w .nodes) × In number (markedOnNode (saidProfile w) x))
           (n .2) (keeps (band .0) (band .1) (band .2 .1) .1 (n .0) (n .1)) clear (n, marked) in
           let after = marked-on-node w t k number h (kept .0) in
@@ -165,7 +159,7 @@ module _ (both touched : List Node) (m w : Memory) (s : sound m ≡ true) (t : s
 -- ---- both ways
 
 -- an accepted change after which only bands of one number have come or gone
-left-kept : (n : ℕ) (m : Memory) (p : Profile) (w : Memory) → Left m p w → SameBut (λ b. b .number ≡ n) (saidProfile m) p → OthersKept n m w
+left-kept : (n : ℕ) (m : Memory) (p : Profile) (w : Memory) → LeavesSound m p w → SameBut (λ b. b .number ≡ n) (saidProfile m) p → OthersKept n m w
 left-kept n m p w left only number h other =
     let same = subst (SameBut (λ b. b .number ≡ n) (saidProfile m)) (sym (left .says)) only in
     let reached = reaches-only-stretches-means n (saidProfile m) (saidProfile w) .fact

@@ -18,19 +18,19 @@ use Rattle.profile.specs.RoomCall.{roomReadIn}
 use Rattle.profile.proofs.EdgeExact.{ExactEdge, edge-exact}
 use Rattle.profile.proofs.NodeExact.{ExactNode, node-exact}
 use Rattle.profile.proofs.RoomExact.{room-exact}
-use Rattle.profile.proofs.ReadsRefused.{EdgeGivesOf, edge-refused-on-sound, NodeGivesOf, node-refused-on-sound}
+use Rattle.profile.proofs.OthersRefused.{EdgeGivesOf, edge-refused-on-sound, NodeGivesOf, node-refused-on-sound}
 
 pub record MarkedByRule (m : Memory) : Type 0 where
   -- of each node and each lane of its own the edge readout tells where the edge leads, and flags a number exactly when the rule marks
   -- a live band of that number on that edge; a link to nothing carries no marks
   pub edges : (n : Node) → In n (saidProfile m .nodes) → (lane : ℕ) → lane < n .level
       → (edgeIn m (n .key) lane .refusal ≡ 0) × ExactEdge (saidProfile m) (n .key) lane (edgeIn m (n .key) lane .read)
-  -- elsewhere there is no edge readout: 13 exactly where no node stands at the key or the node has no such lane
+  -- elsewhere there is no edge readout: on the line 13 exactly where no node stands at the key or the node has no such lane
   pub no-other-edge : (k lane : ℕ) → EdgeGivesOf (saidProfile m) k lane (edgeIn m k lane .refusal)
   -- of each node the node readout tells the level, and flags a number exactly when the rule marks a live band of that number on the node
   pub nodes : (n : Node) → In n (saidProfile m .nodes)
       → (nodeIn m (n .key) .refusal ≡ 0) × ExactNode (saidProfile m) n (nodeIn m (n .key) .read)
-  -- elsewhere there is no node readout: 13 exactly where no node stands at the key
+  -- elsewhere there is no node readout: on the line 13 exactly where no node stands at the key
   pub no-other-node : (k : ℕ) → NodeGivesOf (saidProfile m) k (nodeIn m k .refusal)
   -- the room readout tells how many nodes there are, and the rule's own count of all edge and node marks
   pub room : roomReadIn m ≡ saying 0 (record { nodes = length (saidProfile m .nodes); marks = marksInUse (saidProfile m) })

@@ -1,5 +1,5 @@
--- The node readout on sound memory, in plain words: 13 is given exactly where no node stands at the key; of a node its level is read, and
--- the flags of the live bands marked on it.
+-- The node readout on sound memory, in plain words: at a key on the line 13 is given exactly where no node stands; of a node its level
+-- is read, and the flags of the live bands marked on it.
 -- Assumes nothing.
 use Prim.Native.Nat.{ℕ, _≤_, _<_}
 use mathlib.Core.Path.{_≡_, refl, _∙_}

@@ -1,5 +1,5 @@
 -- "The lowest number that applies is given": a call answers n exactly when a line of that number applies and none of a lower number does, and 0 exactly
--- when none applies; its lines have the table's numbers, and it answers no other. (In plain words: InsertRefused, RemoveRefused, ReadsRefused.)
+-- when none applies; its lines have the table's numbers, and it answers no other. (In plain words: InsertRefused, RemoveRefused, OthersRefused.)
 -- Assumes nothing.
 use Prim.Native.Nat.{ℕ, zero, suc}
 use mathlib.Core.Path.{_≡_, refl, subst}

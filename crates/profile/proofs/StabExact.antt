@@ -1,4 +1,4 @@
--- A stab on sound memory, in plain words: its flags are those of the live bands that hold the key, count and marks met are how many they are,
+-- A stab on sound memory at a key on the line, in plain words: its flags are those of the live bands that hold the key, count and marks met are how many they are,
 -- and its looks are 8 plus the nodes stepped onto.
 -- Assumes nothing.
 use Prim.Native.Nat.{ℕ, _≤_, _<_}

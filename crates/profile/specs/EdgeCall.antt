@@ -1,5 +1,5 @@
--- The edge readout on any memory: 1 (sizes), 4, 13 where no place in use has the key or its node has no such lane, else the key of the node
--- that the link leads to, and what is marked in the link's slot. No band word is read.
+-- The edge readout on any memory: 1 (sizes), 4, 13 where no place is found for the key or its node has no such lane, else the key of the node that the
+-- link leads to, and what is marked in the link's slot. No band word is read. (Places are found by halving: where keys ascend, each that is there.)
 -- Assumes nothing.
 use Prim.Native.Nat.{ℕ, suc}
 use mathlib.Core.Bool.{Bool, cond}
@@ -22,7 +22,7 @@ use Rattle.search.specs.PlaceOf.{placeOf}
 abbrev pub hasLane : List ℕ → ℕ → ℕ → Bool
 hasLane nodes i lane = ltb lane lanes and ltb lane (nodeField nodes i levelField)
 
--- a node stands at the key where a place in use has it
+-- a node stands at the key where a place is found for it
 unfoldable pub edgeRefusalIn : Memory → ℕ → ℕ → ℕ
 edgeRefusalIn m k lane =
     lowest

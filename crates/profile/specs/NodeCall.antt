@@ -1,4 +1,4 @@
--- The node readout on any memory: 1 (sizes), 4, 13 where no place in use has the key, else the level that stands at its place, and what is
+-- The node readout on any memory: 1 (sizes), 4, 13 where no place is found for the key, else the level that stands at its place, and what is
 -- marked in the node's own slot. No band word is read.
 -- Assumes nothing.
 use Prim.Native.Nat.{ℕ}
@@ -13,7 +13,7 @@ use Rattle.store.specs.Places.{nodeField, levelField}
 use Rattle.store.specs.SaidMarks.{saidMarks}
 use Rattle.search.specs.PlaceOf.{placeOf}
 
--- a node stands at the key where a place in use has it
+-- a node stands at the key where a place is found for it
 unfoldable pub nodeRefusalIn : Memory → ℕ → ℕ
 nodeRefusalIn m k = lowest (nodeReadLines (sizesRight (lengthsIn m)) k (saysYes (placeOf (m .nodes) k)))
 

@@ -1,4 +1,5 @@
--- The profile that the rules themselves come to after calls, one after the other, in a room. They know no memory: it is right and sound.
+-- The profile that the rules themselves come to after calls, one after the other, in a room. They know no memory, so
+-- sizes are taken as right and memory as sound.
 -- Assumes nothing.
 use mathlib.Core.Bool.{true}
 use mathlib.Core.List.{List, [], _∷_}

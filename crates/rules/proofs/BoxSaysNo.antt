@@ -16,7 +16,7 @@ use Rattle.rules.specs.Profile.{Profile, emptyProfile, isLive}
 use Rattle.rules.specs.Marks.{marksInUse}
 use Rattle.rules.specs.Changes.{inserted, removed}
 use Rattle.rules.specs.Room.{Room, roomInRange}
-use Rattle.rules.specs.BoxSaysNo.{TableLine, lowest, sizesWrong, notSound, scopeAbove, numberAbove, keyAbove, endAbove, holdsNone, endElsewhere, levelWrong, numberLive, numberNotLive, scopeOther, nodesExceed, marksExceed, notThere, bandLines, insertLines, removeLines, stabLines, bandReadLines, edgeReadLines, nodeReadLines, keyFault, bandFault, faultOf, insertRefusal, removeRefusal, emptyRefusal, stabRefusal, bandReadRefusal, edgeReadRefusal, nodeReadRefusal, roomReadRefusal, changed, emptyOutcome, insertOutcome, removeOutcome, saying, answered}
+use Rattle.rules.specs.BoxSaysNo.{TableLine, lowest, sizesWrong, notSound, scopeAbove, numberAbove, keyAbove, endAbove, holdsNone, endElsewhere, levelWrong, numberLive, numberNotLive, scopeOther, nodesExceed, marksExceed, notThere, bandLines, keyFault, bandFault, faultOf, insertRefusal, removeRefusal, emptyRefusal, stabRefusal, bandReadRefusal, edgeReadRefusal, nodeReadRefusal, roomReadRefusal, changed, emptyOutcome, insertOutcome, removeOutcome, saying, answered}
 use Rattle.rules.proofs.Means.{Means, Fails, never, passes-or-fails, reworded, itself, denied, not-means, not-fails, and-means, and-fails, and3-means, or-means, or-fails, implies-fails, lt-means, lt-fails, le-means, le-fails, eq-means}
 use Rattle.rules.proofs.Lists.{Some, Each, some-cons, each-cons, any-means, any-fails}
 use Rattle.rules.proofs.HallLine.{Own, own-key-means, holds-whole-key-means}
@@ -245,27 +245,6 @@ line-gives l ls p o f = (
   where
     after : lowest ls ≡ l .refusal → ⊥
     after = not-higher (l .refusal) (suc (l .refusal)) ls p (omega arith) o
-
--- The lines of each call stand in order, so that `lowest-zero` and `lowest-given` say exactly when it gives 0 and each number.
-module _ (sizesRight sound : Bool) (room : Room) (p : Profile) where
-  pub insert-ordered : (b : Band) (lo hi : ℕ) → Ordered 1 (insertLines sizesRight sound room p b lo hi)
-  insert-ordered b lo hi = omega arith
-
-  pub remove-ordered : (number scope : ℕ) → Ordered 1 (removeLines sizesRight sound room p number scope)
-  remove-ordered number scope = omega arith
-
-module _ (sizesRight : Bool) where
-  pub stab-ordered : (k : ℕ) → Ordered 1 (stabLines sizesRight k)
-  stab-ordered k = omega arith
-
-  pub band-ordered : (n : ℕ) (live : Bool) → Ordered 1 (bandReadLines sizesRight n live)
-  band-ordered n live = omega arith
-
-  pub edge-ordered : (k : ℕ) (stands hasLane : Bool) → Ordered 1 (edgeReadLines sizesRight k stands hasLane)
-  edge-ordered k stands hasLane = omega arith
-
-  pub node-ordered : (k : ℕ) (stands : Bool) → Ordered 1 (nodeReadLines sizesRight k stands)
-  node-ordered k stands = omega arith
 
 -- ---- what nothing refuses
 

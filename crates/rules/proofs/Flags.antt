@@ -15,8 +15,8 @@ use lib.ListN.{length, getD, replicate}
 use lib.Count.{ones, ones-step}
 use Rattle.rules.specs.Connectives.{_and_, _or_, oneIf}
 use Rattle.rules.specs.Lists.{all, sumOf, member, distinct, countFrom}
-use Rattle.rules.specs.Flags.{flagsOf, flagAt, countOf, bitsFrom, wordsFrom}
-use Rattle.rules.proofs.Means.{and-both}
+use Rattle.rules.specs.Flags.{flagCount, flagsOf, flagAt, countOf, setFlags, bitsFrom, wordsFrom}
+use Rattle.rules.proofs.Means.{and-both, itself, eq-means, same-means}
 use Rattle.rules.proofs.Lists.{In, member-means}
 use Rattle.rules.proofs.Sums.{at-most-one}
 
@@ -263,3 +263,14 @@ flags-of-none = refl
 pub count-of-nothing : countOf [] ≡ 0
 unfolding countOf
 count-of-nothing = count-of-none (λ n. false) (λ n. refl) 0 1024
+
+-- a flag is set exactly for a number of the list
+set-for-member : (ns : List ℕ) (n : ℕ) → n < flagCount → member n ns ≡ eqb (flagAt (flagsOf ns) n) 1
+set-for-member ns n h =
+    let e = flag-set-for-member ns n h in same-means (itself (member n ns)) (eq-means (flagAt (flagsOf ns) n) 1) (e .1) (e .0)
+
+-- the flags of a list of numbers that are set are as many as the count of the list
+pub set-flags-counted : (ns : List ℕ) → countOf ns ≡ setFlags (flagsOf ns)
+unfolding setFlags countOf
+set-flags-counted ns =
+    counts-agree (λ n. member n ns) (λ n. eqb (flagAt (flagsOf ns) n) 1) flagCount (set-for-member ns) 0 flagCount (omega arith)

@@ -1,7 +1,7 @@
 -- "Marks": the Bool rules say what the paper says with its quantifiers: over all lanes above, all edges of a lane, all bands of a profile.
 -- Assumes nothing.
 use Prim.Native.Nat.{ℕ, suc, _-_, _≤_, _<_}
-use mathlib.Core.Path.{_≡_, refl}
+use mathlib.Core.Path.{_≡_, refl, ap}
 use mathlib.Core.Bool.{Bool, true, false}
 use mathlib.Core.Logic.{_↔_}
 use mathlib.Core.List.{List, [], _∷_, map}
@@ -11,9 +11,10 @@ use Rattle.rules.specs.Lists.{addIf, countIf}
 use Rattle.rules.specs.HallLine.{Band, holds}
 use Rattle.rules.specs.NodesLanesEdges.{Node, Edge, edgesIn, lanes}
 use Rattle.rules.specs.Profile.{Profile}
-use Rattle.rules.specs.Marks.{inside, contains, coveredInLane, edgeMarked, passesOver, passedOverInLane, nodeMarked, numbersWhere, markedOnEdge, markedOnNode}
+use Rattle.rules.specs.Marks.{inside, contains, coveredInLane, edgeMarked, edgeMarksIn, passesOver, passedOverInLane, nodeMarked, numbersWhere, markedOnEdge, markedOnNode}
 use Rattle.rules.proofs.Means.{Means, reworded, itself, denied, not-means, and-means, lt-means, le-means}
 use Rattle.rules.proofs.Lists.{In, Some, any-means, Distinct, in-made, length-made, in-map, lane-fails}
+use Rattle.rules.proofs.NodesLanesEdges.{no-edge}
 
 -- the edge lies inside the band
 abbrev pub Inside : Edge → Band → Type 0
@@ -114,3 +115,8 @@ module _ (p : Profile) where
   pub in-marked-on-node : (n k : ℕ) → In n (markedOnNode p k) ↔ Some (λ b. (nodeMarked (p .nodes) b k ≡ true) × (b .number ≡ n)) (p .bands)
   unfolding markedOnNode
   in-marked-on-node n k = in-numbers (λ b. itself (nodeMarked (p .nodes) b k)) n (p .bands)
+
+-- with one node alone no band is marked on an edge
+pub no-edge-marks : (n : Node) (b : Band) (i : ℕ) → edgeMarksIn (n ∷ []) b i ≡ 0
+unfolding edgeMarksIn
+no-edge-marks n b i = ap (countIf (edgeMarked (n ∷ []) b i)) (no-edge n i)

@@ -264,3 +264,11 @@ with-node-length k l ns = go (standsAt k ns)
     go : (t : Bool) → length (cond t ns (placed (λ n. n .key) (nodeOf k l) ns)) ≤ suc (length ns)
     go true = omega arith
     go false = omega (arith, length-placed (λ n. n .key) (nodeOf k l) ns)
+
+-- one node is on no edge
+pub no-edge : (n : Node) (i : ℕ) → edgesIn i (n ∷ []) ≡ []
+no-edge n i = go (takesPart i n)
+  where
+    go : (t : Bool) → edgesAlong (addIf t (n .key) []) ≡ []
+    go true = refl
+    go false = refl

@@ -3,6 +3,7 @@
 use Prim.Native.Nat.{ℕ, zero, suc, _+_, _*_, _/_, _%_, _^_}
 use mathlib.Core.Bool.{Bool}
 use mathlib.Core.List.{List, [], _∷_}
+use lib.Dec.{eqb}
 use lib.ListN.{getD}
 use Rattle.rules.specs.Connectives.{oneIf}
 use Rattle.rules.specs.Lists.{member, countFrom}
@@ -38,3 +39,7 @@ flagAt ws n = getD ws (n / bitsPerWord) 0 / 2 ^ (n % bitsPerWord) % 2
 -- the count is the number of set flags
 unfoldable pub countOf : List ℕ → ℕ
 countOf ns = countFrom (λ n. member n ns) 0 flagCount
+
+-- how many of the flags of numbers 0 to 1,023 are set
+unfoldable pub setFlags : List ℕ → ℕ
+setFlags words = countFrom (λ n. eqb (flagAt words n) 1) 0 flagCount

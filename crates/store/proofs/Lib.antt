@@ -10,6 +10,7 @@
 --   WithBand       .. and the band words once one number is laid anew
 --   LaidLays       .. so they lay it
 --   NodeWords      .. and are the only words of their length with those fields
+--   NamesNoBand    header and node places name no band, and a mark place holds only a number
 --   LaidEmpty      the words of the empty profile
 --   Sound          sound memory in plain facts, and that two of the same lengths and profile are equal
 --   LaidSound      what is laid is sound and says the profile: each that stands and fits has such a memory
@@ -34,6 +35,7 @@ pub mod LaidMarks
 pub mod LaidNodes
 pub mod LaidLays
 pub mod NodeWords
+pub mod NamesNoBand
 pub mod LaidEmpty
 pub mod Sound
 pub mod LaidSound

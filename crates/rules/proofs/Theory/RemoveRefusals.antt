@@ -19,7 +19,7 @@ use Rattle.rules.specs.BenchProfile.{p9}
 use Rattle.rules.proofs.Means.{never, lt-fails}
 use Rattle.rules.proofs.Lists.{member-means, in-map}
 use Rattle.rules.proofs.Changes.{removed-nodes-no-more}
-use Rattle.rules.proofs.BoxSaysNo.{lowest-given, remove-ordered}
+use Rattle.rules.proofs.BoxSaysNo.{lowest-given}
 
 module _ (room : Room) (p : Profile) (number : ℕ) where
   -- 11 is never given on a remove: it is none of a remove's lines ..
@@ -27,7 +27,7 @@ module _ (room : Room) (p : Profile) (number : ℕ) where
   unfolding removeRefusal _or_
   eleven-never-on-remove sizesRight sound scope e =
       let ls = removeLines sizesRight sound room p number scope in
-      let g = lowest-given ls (remove-ordered sizesRight sound room p number scope) 11 (omega arith) .0 e .0 in
+      let g = lowest-given ls (omega arith) 11 (omega arith) .0 e .0 in
       never (member-means 11 (map (λ l. l .refusal) ls) .test (in-map (λ l. l .refusal) 11 ls .1 (g .0, g .1, g .2 .1)))
 
   -- .. nor need it be: where nodes fit before the remove, 11 does not apply after it

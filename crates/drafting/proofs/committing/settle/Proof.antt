@@ -1,7 +1,8 @@
 -- `drafting::committing::settle` meets its contract: what is copied and laid is the one memory of the profile that the draft says.
 -- Assumes nothing.
 use borrow.Author.Needs.{needs}
-use Rattle.drafting.proofs.DraftSettled.{drafted-within, cleared-within, draft-laid}
+use Rattle.store.proofs.RightSizes.{sizes-in-numbers}
+use Rattle.drafting.proofs.DraftSettled.{drafted-within, draft-laid}
 use Rattle.drafting.proofs.committing.settle.Statement.{statement}
 use Rattle.drafting.proofs.committing.settle.Tie as tie
 
@@ -18,10 +19,9 @@ lay-requires : tie.Need-lay-requires
 lay-requires c κs =
     let cleared = c .before .before .before .before in
     let bands = cleared .before .before .before .before .before .before .before .before in
-    let pre = bands .before .before .before .before .before .before .before .before .pre in (
-      drafted-within _ _ _ _ _ (pre .0) (pre .1) (pre .2) (pre .3),
-      cleared-within _ _ _ _ _ (pre .0) (pre .1) (pre .2) (pre .3) _ (cleared .clear .ensures),
-    )
+    let pre = bands .before .before .before .before .before .before .before .before .pre in
+    let size = sizes-in-numbers _ _ _ .fact (pre .0) in
+    (drafted-within _ _ _ _ _ (pre .0) (pre .1) (pre .2) (pre .3), search needs)
 
 same-length : tie.Need-same-length
 same-length c = search needs

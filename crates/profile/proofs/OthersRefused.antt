@@ -103,7 +103,7 @@ module _ (m : Memory) (number : ℕ) where
 
 -- ---- edge readout: 1, 4 and 13
 
--- by the words of any memory: no place in use has the key, or the lane is above 7 or not below the level that stands at the place
+-- by the words of any memory: no place is found for the key, or the lane is above 7 or not below the level that stands at the place
 pub record EdgeGives (m : Memory) (k lane n : ℕ) : Type 0 where
   pub gives-1 : (n ≡ 1) ↔ (sizesRight (lengthsIn m) ≡ false)
   pub gives-4 : (n ≡ 4) ↔ ((sizesRight (lengthsIn m) ≡ true) × (highestKey < k))
@@ -184,7 +184,7 @@ module _ (m : Memory) (k lane : ℕ) where
 
 -- ---- node readout: 1, 4 and 13
 
--- by the words of any memory: no place in use has the key
+-- by the words of any memory: no place is found for the key
 pub record NodeGives (m : Memory) (k n : ℕ) : Type 0 where
   pub gives-1 : (n ≡ 1) ↔ (sizesRight (lengthsIn m) ≡ false)
   pub gives-4 : (n ≡ 4) ↔ ((sizesRight (lengthsIn m) ≡ true) × (highestKey < k))
