@@ -15,12 +15,12 @@ fn put_links(draft: &mut [u32], place: usize, level: usize, ahead: &[u32])
 {
     let mut lane = 0;
     while lane < store::LANES {
-        let due = if lane < level {
-            ahead[lane] as usize
-        } else {
-            0
-        };
-        store::put_node_word(draft, place, store::LINKS + lane, due);
+        store::put_node_word(
+            draft,
+            place,
+            store::LINKS + lane,
+            laying::link_due(level, lane, ahead),
+        );
         lane += 1;
     }
 }

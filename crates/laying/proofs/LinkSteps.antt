@@ -82,11 +82,11 @@ module _ (place level : ℕ) where
 
 -- ---- the link due in a lane
 
-module _ (level : ℕ) (ahead : List ℕ) (lane : ℕ) where
-  pub link-due : lane < level → getD ahead lane 0 ≡ linkDue level lane (getD ahead lane 0)
+module _ (level lane next : ℕ) where
+  pub link-due : lane < level → next ≡ linkDue level lane next
   link-due h = rw (lt-ltb lane level h)
 
-  pub no-link-due : level ≤ lane → 0 ≡ linkDue level lane (getD ahead lane 0)
+  pub no-link-due : level ≤ lane → 0 ≡ linkDue level lane next
   no-link-due h = rw (le-ltb lane level h)
 
 -- ---- the first places ahead of a place

@@ -10,4 +10,5 @@ mod zeros;
 pub use checking::check;
 pub use ends::MOST_PLACES;
 pub use ends::note_ends;
+pub use links::link_due;
 pub use links::raise;

@@ -1,9 +1,21 @@
 // The test of the links: one pass from the last node back to the header, with the first place seen so far in each lane.
 ghost use mathlib.Core.Path.{_≡_};
 ghost use Prim.Native.Nat.{_<_, _^_};
-ghost use lib.ListN.{length, replicate};
+ghost use lib.ListN.{length, getD, replicate};
 ghost use Rattle.rules.specs.NodesLanesEdges.{lanes};
-ghost use Rattle.laying.specs.Links.{linksRight, linksDue, raised};
+ghost use Rattle.laying.specs.Links.{linkDue, linksRight, linksDue, raised};
+
+// The link due in a lane at a place with links in so many lanes: to the first place ahead, and in a lane that it has not 0.
+pub fn link_due(level: usize, lane: usize, ahead: &[u32]) -> usize
+    requires { ⌜ (lane < lanes) × (length (now ahead) ≡ lanes) ⌝ }
+    ensures { λ r. ⌜ (r ≡ linkDue level lane (getD (now (ahead .entry)) lane 0)) × (r < 2 ^ 32) ⌝ }
+{
+    if lane < level {
+        ahead[lane] as usize
+    } else {
+        0
+    }
+}
 
 // Whether the links of a place, in as many lanes as it has, lead to the first places ahead; in other lanes they are 0.
 fn links_due(nodes: &[u32], place: usize, level: usize, ahead: &[u32]) -> bool
@@ -12,12 +24,7 @@ fn links_due(nodes: &[u32], place: usize, level: usize, ahead: &[u32]) -> bool
 {
     let mut lane = 0;
     while lane < store::LANES {
-        let due = if lane < level {
-            ahead[lane] as usize
-        } else {
-            0
-        };
-        if store::node_word(nodes, place, store::LINKS + lane) != due {
+        if store::node_word(nodes, place, store::LINKS + lane) != link_due(level, lane, ahead) {
             return false;
         }
         lane += 1;
