@@ -14,7 +14,7 @@ pub enum Script {
     LineEnd,
 }
 
-// The hall line's last key, and the number past it.
+// The hall line's last key, and the number past it. Numbers here are the paper's own and not taken from the crates that are tried.
 const LAST: u32 = 2097151;
 
 const PAST: u32 = 2097152;
@@ -41,30 +41,35 @@ fn closed(number: u32, scope: u32, low: u32, high: u32) -> Band {
     }
 }
 
-// Makes the bench profile and asks for all of it. Its bands come in another order than that of their numbers. A level that is given for an end that
-// stands already, or for the high end of band 4, which is its low end too, misleads.
+// Before it is made empty the memory is junk, and changes are refused by 1. Then makes the bench profile and asks for all of it. Its bands come in another
+// order than that of their numbers. A level for an end that stands already, or for the high end of a one-key band, is wrong on purpose: it plays no part.
 fn bench_made(at: usize) -> Turn {
     match at {
         0 => Turn::Check,
-        1 => Turn::Empty,
-        2 => Turn::Check,
-        3 => Turn::Insert(bench::BAND_4, 1, 5),
-        4 => Turn::Room,
-        5 => Turn::Check,
-        6 => Turn::Insert(bench::BAND_2, 1, 2),
-        7 => Turn::Room,
-        8 => Turn::Check,
-        9 => Turn::Insert(bench::BAND_5, 1, 8),
-        10 => Turn::Room,
-        11 => Turn::Check,
-        12 => Turn::Insert(bench::BAND_3, 3, 2),
-        13 => Turn::Room,
-        14 => Turn::Check,
-        15 => Turn::Insert(bench::BAND_1, 7, 4),
-        16 => Turn::Room,
-        17 => Turn::Check,
-        18 => Turn::BenchStabs,
-        19 => Turn::BenchReadouts,
+        1 => Turn::Keep,
+        2 => Turn::Insert(bench::BAND_4, 1, 5),
+        3 => Turn::Compare,
+        4 => Turn::Remove(3, MACHINE),
+        5 => Turn::Compare,
+        6 => Turn::Empty,
+        7 => Turn::Check,
+        8 => Turn::Insert(bench::BAND_4, 1, 5),
+        9 => Turn::Room,
+        10 => Turn::Check,
+        11 => Turn::Insert(bench::BAND_2, 1, 2),
+        12 => Turn::Room,
+        13 => Turn::Check,
+        14 => Turn::Insert(bench::BAND_5, 1, 8),
+        15 => Turn::Room,
+        16 => Turn::Check,
+        17 => Turn::Insert(bench::BAND_3, 3, 2),
+        18 => Turn::Room,
+        19 => Turn::Check,
+        20 => Turn::Insert(bench::BAND_1, 7, 4),
+        21 => Turn::Room,
+        22 => Turn::Check,
+        23 => Turn::BenchStabs,
+        24 => Turn::BenchReadouts,
         _ => Turn::End,
     }
 }

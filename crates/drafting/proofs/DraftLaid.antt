@@ -37,10 +37,10 @@ use Rattle.marking.proofs.StaircasesLay.{marks-count, same-staircases}
 use Rattle.marking.proofs.LaidAll.{starts-are-fences}
 use Rattle.laying.proofs.LinksLaid.{LinksLaid}
 use Rattle.laying.proofs.NodesLaid.{laid-links}
-use Rattle.drafting.specs.NodeDraft.{mostDrafted, draftWords, nodeNo, draftField, DraftOf}
+use Rattle.drafting.specs.NodeDraft.{mostDrafted, draftWords, nodeAt, draftField, DraftOf}
 use Rattle.drafting.specs.LinkDraft.{linkedField}
 use Rattle.drafting.specs.FenceDraft.{fencedField}
-use Rattle.drafting.specs.Settled.{startsBy}
+use Rattle.drafting.specs.Committed.{startsBy}
 use Rattle.drafting.proofs.LinkedDraft.{key-kept, level-kept, fence-kept, free-kept, in-use-kept, says-kept, links-there, draft-linked}
 use Rattle.drafting.proofs.FencedDraft.{withCounts, counts-size, nodes-kept, header-kept, lanes-there, marks-there, header-unfenced, field-unfenced, free-unfenced, fence-there}
 
@@ -48,7 +48,7 @@ use Rattle.drafting.proofs.FencedDraft.{withCounts, counts-size, nodes-
 
 -- no node stands past the last ..
 free-field : (ns : List Node) (j f : ℕ) → length ns ≤ j → draftField ns (suc j) f ≡ 0
-unfolding draftField nodeNo
+unfolding draftField nodeAt
 free-field ns j zero h = ap (λ n. n .key) (List·getD-eq-default ns (nodeOf 0 0) h)
 free-field ns j (suc zero) h = ap (λ n. n .level) (List·getD-eq-default ns (nodeOf 0 0) h)
 free-field ns j (suc (suc f)) h = refl

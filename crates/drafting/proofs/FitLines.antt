@@ -7,7 +7,7 @@ use borrow.Author.Tests.{lt-ltb, le-ltb}
 use Rattle.rules.specs.Profile.{Profile}
 use Rattle.rules.specs.Room.{Room}
 use Rattle.rules.specs.Marks.{marksInUse}
-use Rattle.drafting.specs.Settled.{fitRefusal}
+use Rattle.drafting.specs.Committed.{fitRefusal}
 
 module _ (room : Room) (after : Profile) where
   -- 11, where there are more nodes than room

@@ -5,7 +5,7 @@
 --   FencedDraft    .. and once the header counts lanes and marks and the fences are laid
 --   DraftLaid      .. is the node words of its profile
 --   FitLines       which of 11 and 12 is given
---   DraftSettled   what comes of a draft: laid into memory, or refused
+--   DraftCommitted   what comes of a draft: laid into memory, or refused
 -- As the code goes about them: PutSteps, KeepSteps, LinkLaying, FenceLaying.
 pub mod NodeDraft
 pub mod KeptNodes
@@ -13,7 +13,7 @@ pub mod LinkedDraft
 pub mod FencedDraft
 pub mod DraftLaid
 pub mod FitLines
-pub mod DraftSettled
+pub mod DraftCommitted
 pub mod PutSteps
 pub mod KeepSteps
 pub mod LinkLaying

@@ -3,4 +3,4 @@ pub mod NodeDraft
 pub mod KeptNodes
 pub mod LinkDraft
 pub mod FenceDraft
-pub mod Settled
+pub mod Committed

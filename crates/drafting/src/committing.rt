@@ -16,15 +16,15 @@ ghost use Rattle.store.specs.LaidBands.{laidBands};
 ghost use Rattle.store.specs.LaidNodes.{laidNodes};
 ghost use Rattle.store.specs.LaidMemory.{laidMemory};
 ghost use Rattle.drafting.specs.NodeDraft.{draftWords, DraftOf};
-ghost use Rattle.drafting.specs.Settled.{fitRefusal, settled, startsBy};
+ghost use Rattle.drafting.specs.Committed.{fitRefusal, committed, startsBy};
 use crate::fence_laying;
 use crate::link_laying;
 use hall::Answer;
 use hall::Refusal;
 
-// Judges 11, then 12, and where neither is given completes the node draft: links, fences and header. The cursors are then where the marks of each
-// slot start.
-fn fit(
+// Judges 11, lays the links, counts the marks and judges 12; where neither is given it completes the draft with header and fences. The cursors are then
+// where the marks of each slot start.
+fn complete(
     draft_bands: &[u32],
     draft_nodes: &mut [u32],
     node_room: usize,
@@ -62,7 +62,7 @@ fn fit(
 }
 
 // Lays a completed draft into the memory, and its marks from these starts on.
-fn settle(
+fn lay_draft(
     draft_bands: &[u32],
     draft_nodes: &[u32],
     starts: &mut [u32],
@@ -89,7 +89,7 @@ fn settle(
     marking::lay(draft_bands, draft_nodes, starts, marks);
 }
 
-// Judges the draft and lays it, with words to count in. No word of the memory is written before 11 and 12 are judged.
+// Judges the draft and lays it, with words to count in. No word of the memory is written before 11 and 12 are judged: `complete` is lent none of it.
 fn commit_with(
     draft_bands: &[u32],
     draft_nodes: &mut [u32],
@@ -108,20 +108,20 @@ fn commit_with(
         ⌝ }
     ensures { λ r. ⌜
         leaving (answerSays r) (lent (now (bands .exit)) (now (nodes .exit)) (now (marks .exit)))
-        ≡ settled (lent (now (bands .entry)) (now (nodes .entry)) (now (marks .entry))) (saidBy (now («draft_bands» .entry)) (now («draft_nodes» .entry)))
+        ≡ committed (lent (now (bands .entry)) (now (nodes .entry)) (now (marks .entry))) (saidBy (now («draft_bands» .entry)) (now («draft_nodes» .entry)))
         ⌝ }
 {
     let node_room = nodes.len() / store::NODE_PLACE_WORDS - 1;
-    match fit(draft_bands, draft_nodes, node_room, marks.len(), cursors) {
+    match complete(draft_bands, draft_nodes, node_room, marks.len(), cursors) {
         Answer::Refused(refusal) => Answer::Refused(refusal),
         Answer::Done => {
-            settle(draft_bands, draft_nodes, cursors, bands, nodes, marks);
+            lay_draft(draft_bands, draft_nodes, cursors, bands, nodes, marks);
             Answer::Done
         }
     }
 }
 
-// Judges the profile that is drafted by 11 and 12, and lays it where neither is given; refused, no word of the memory is written.
+// Judges the profile that is drafted by 11 and 12, and lays it where neither is given; refused, the memory is as it was.
 pub fn commit(
     draft_bands: &[u32],
     draft_nodes: &mut [u32],
@@ -137,7 +137,7 @@ pub fn commit(
         ⌝ }
     ensures { λ r. ⌜
         leaving (answerSays r) (lent (now (bands .exit)) (now (nodes .exit)) (now (marks .exit)))
-        ≡ settled (lent (now (bands .entry)) (now (nodes .entry)) (now (marks .entry))) (saidBy (now («draft_bands» .entry)) (now («draft_nodes» .entry)))
+        ≡ committed (lent (now (bands .entry)) (now (nodes .entry)) (now (marks .entry))) (saidBy (now («draft_bands» .entry)) (now («draft_nodes» .entry)))
         ⌝ }
 {
     let mut cursors = [0u32; marking::MOST_CURSORS];

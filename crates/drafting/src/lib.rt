@@ -1,4 +1,4 @@
-// A change as it is drafted: nodes and links in a draft, then 11 and 12 judged, then all of it laid into the lent memory.
+// A change as it is drafted: its nodes, then 11 judged; its links, then 12; and then all of it laid into the lent memory.
 mod committing;
 mod fence_laying;
 mod keeping;

@@ -35,7 +35,7 @@ use Rattle.store.specs.Sound.{sound}
 use Rattle.store.proofs.SaidBands.{live-by-place, said-bands-ascend}
 use Rattle.store.proofs.WithBand.{band-laid-too}
 use Rattle.drafting.specs.NodeDraft.{mostDrafted, DraftOf}
-use Rattle.drafting.specs.Settled.{fitRefusal, settled}
+use Rattle.drafting.specs.Committed.{fitRefusal, committed}
 use Rattle.drafting.proofs.NodeDraft.{draft-says}
 use Rattle.store.proofs.Sound.{unsound-fails}
 use Rattle.profile.specs.InsertCall.{insertRefusalIn, insertIn, insertJudged}
@@ -122,9 +122,9 @@ module _ (m : Memory) (b : Band) (lo hi : ℕ) where
         inserted-stands (saidProfile m) b lo hi (said-stands m insert-on-sound) (lines-zero .1) (lines-zero .2 .0) (lines-zero .2 .1) (lines-zero .3)
 
     -- 11 and 12 decide
-    insert-settled : settled m (inserted (saidProfile m) b lo hi) ≡ insertIn m b lo hi
-    unfolding settled fitRefusal insertIn insertRefusalIn insertRefusal insertJudged
-    insert-settled =
+    insert-committed : committed m (inserted (saidProfile m) b lo hi) ≡ insertIn m b lo hi
+    unfolding committed fitRefusal insertIn insertRefusalIn insertRefusal insertJudged
+    insert-committed =
         ap (λ r. changed r m (laidMemory (roomIn m) (inserted (saidProfile m) b lo hi)))
         (sym (lowest-past linesTo8 linesOfRoom (lowest-zero linesTo8 (omega arith) .0 judged)))
 
@@ -183,7 +183,7 @@ module _ (m : Memory) (b : Band) (lo hi : ℕ) (judged : insertJudged m b lo hi 
         insert-commit-asks = commit-asks (inserted (saidProfile m) b lo hi) (insert-stands m b lo hi judged) bands band-drafted d2 high-drafted m s
 
         -- what comes of it is the insert
-        pub draft-inserts : settled m (saidBy bands d2) ≡ insertIn m b lo hi
+        pub draft-inserts : committed m (saidBy bands d2) ≡ insertIn m b lo hi
         draft-inserts =
-            ap (settled m) (draft-says-all (inserted (saidProfile m) b lo hi) (insert-stands m b lo hi judged) bands band-drafted d2 high-drafted)
-            ∙ insert-settled m b lo hi judged
+            ap (committed m) (draft-says-all (inserted (saidProfile m) b lo hi) (insert-stands m b lo hi judged) bands band-drafted d2 high-drafted)
+            ∙ insert-committed m b lo hi judged

@@ -33,7 +33,7 @@ use Rattle.store.specs.Sound.{sound}
 use Rattle.store.proofs.SaidBands.{said-bands-ascend, in-said-bands, live-by-place}
 use Rattle.store.proofs.WithBand.{place-freed}
 use Rattle.drafting.specs.NodeDraft.{DraftOf}
-use Rattle.drafting.specs.Settled.{fitRefusal, settled}
+use Rattle.drafting.specs.Committed.{fitRefusal, committed}
 use Rattle.store.proofs.Sound.{unsound-fails}
 use Rattle.profile.specs.RemoveCall.{removeRefusalIn, removeIn, removeJudged}
 use Rattle.profile.proofs.OnSound.{said-stands, in-room}
@@ -133,9 +133,9 @@ module _ (m : Memory) (number scope : ℕ) where
     remove-stands = removed-stands (saidProfile m) number (said-stands m remove-on-sound)
 
     -- 12 decides: 11 never applies
-    remove-settled : settled m (removed (saidProfile m) number) ≡ removeIn m number scope
-    unfolding settled fitRefusal removeIn removeRefusalIn removeRefusal
-    remove-settled =
+    remove-committed : committed m (removed (saidProfile m) number) ≡ removeIn m number scope
+    unfolding committed fitRefusal removeIn removeRefusalIn removeRefusal
+    remove-committed =
         let after = removed (saidProfile m) number in
         let last = marksExceed (roomIn m) after ∷ [] in
         let few = eleven-not-after-remove (roomIn m) (saidProfile m) number (in-room m remove-on-sound .1 .nodes-fit) in
@@ -177,6 +177,6 @@ module _ (m : Memory) (number scope : ℕ) (judged : removeJudged m number scope
     remove-commit-asks = commit-asks (removed (saidProfile m) number) stands bands bands-drafted d drafted m s
 
     -- what comes of it is the remove
-    pub draft-removes : settled m (saidBy bands d) ≡ removeIn m number scope
+    pub draft-removes : committed m (saidBy bands d) ≡ removeIn m number scope
     draft-removes =
-        ap (settled m) (draft-says-all (removed (saidProfile m) number) stands bands bands-drafted d drafted) ∙ remove-settled m number scope judged
+        ap (committed m) (draft-says-all (removed (saidProfile m) number) stands bands bands-drafted d drafted) ∙ remove-committed m number scope judged

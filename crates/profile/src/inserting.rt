@@ -13,8 +13,8 @@ use hall::Answer;
 use hall::Band;
 use hall::Refusal;
 
-// Makes a band live, with nodes at its ends of the levels given where none stands there. All is checked first, and judged on a draft: refused, no word
-// of the memory is written.
+// Makes a band live, with nodes at its ends of the levels given where none stands there. All of memory is checked first; 11 and 12 are judged on a
+// draft, so that a refused insert leaves every word as it was.
 pub fn insert(
     bands: &mut [u32],
     nodes: &mut [u32],

@@ -12,8 +12,8 @@ use hall::Answer;
 use hall::Band;
 use hall::Refusal;
 
-// Ends the band of a number, and drops each node at which no band ends any more. All is checked first, and judged on a draft: refused, no word of the
-// memory is written.
+// Ends the band of a number, and drops each node at which no band ends any more. All of memory is checked first; 12 is judged on a draft, so that a
+// refused remove leaves every word as it was.
 pub fn remove(
     bands: &mut [u32],
     nodes: &mut [u32],
@@ -55,7 +55,7 @@ fn judge(bands: &[u32], nodes: &[u32], marks: &[u32], number: u32, scope: u32) -
     Answer::Done
 }
 
-// The rest of a remove that these do not refuse.
+// The rest of a remove that 1, 2, 3, 9 and 10 do not refuse.
 fn remove_judged(
     bands: &mut [u32],
     nodes: &mut [u32],

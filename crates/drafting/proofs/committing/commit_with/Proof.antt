@@ -6,15 +6,15 @@ use borrow.Author.Needs.{needs}
 use Rattle.hall.specs.Says.{answerSays}
 use Rattle.hall.proofs.OneToOne.{no-refusal-says-0}
 use Rattle.store.proofs.RightSizes.{sizes-in-numbers}
-use Rattle.drafting.proofs.DraftSettled.{draft-refused, draft-completed, draft-in-room, draft-accepted, counted-from-zero}
+use Rattle.drafting.proofs.DraftCommitted.{draft-refused, draft-completed, draft-in-room, draft-accepted, counted-from-zero}
 use Rattle.drafting.proofs.committing.commit_with.Statement.{statement}
 use Rattle.drafting.proofs.committing.commit_with.Tie as tie
 
 sub-node-room : tie.Need-sub-node-room
 sub-node-room c = let size = sizes-in-numbers _ _ _ .fact (c .before .before .before .before .before .before .pre .0) in omega arith
 
-fit-requires : tie.Need-fit-requires
-fit-requires c κs =
+complete-requires : tie.Need-complete-requires
+complete-requires c κs =
     let pre = c .before .before .before .before .before .before .before .before .pre in
     let size = sizes-in-numbers _ _ _ .fact (pre .0) in
     (pre .2, pre .3, omega arith, omega arith, pre .4, pre .5)
@@ -25,15 +25,15 @@ enum-known-refusal c = search needs
 enum-told : tie.Need-enum-told
 enum-told c = search needs
 
-settle-requires : tie.Need-settle-requires
-settle-requires c κs =
+lay-draft-requires : tie.Need-lay-draft-requires
+lay-draft-requires c κs =
     let done = ap answerSays (c .before .before .before .before .before .enum-told .given .1) in
     let fitted = c .before .before .before .before .before .before .before .before .before .before .before in
     let pre = fitted .before .before .before .before .before .before .before .before .before .pre in
-    let completed = fitted .fit .ensures .1 done in
+    let completed = fitted .complete .ensures .1 done in
     let starts = counted-from-zero _ _ _ _ (pre .4) (completed .1) in (
       pre .0,
-      draft-in-room _ _ _ _ _ _ (fitted .fit .ensures .0) done _ (completed .0) (pre .0) (pre .3),
+      draft-in-room _ _ _ _ _ _ (fitted .complete .ensures .0) done _ (completed .0) (pre .0) (pre .3),
       pre .1,
       draft-completed _ _ _ (completed .0),
       starts .1,
@@ -48,7 +48,7 @@ same-length-2 c = search needs
 
 returns : tie.Need-returns
 returns c =
-    let judged = sym (ap answerSays (c .before .refusal .given .1)) ∙ c .before .before .before .before .before .before .before .fit .ensures .0 in
+    let judged = sym (ap answerSays (c .before .refusal .given .1)) ∙ c .before .before .before .before .before .before .before .complete .ensures .0 in
     draft-refused _ _ _ _ _ _ judged (no-refusal-says-0 (c .before .refusal .given .0 .0))
 
 same-length-3 : tie.Need-same-length-3
@@ -71,17 +71,17 @@ returns-2 c =
     let laid = c .before .before .before .before .before .before .before .before in
     let done = ap answerSays (laid .before .before .before .before .before .before .enum-told .given .1) in
     let fitted = laid .before .before .before .before .before .before .before .before .before .before .before .before in
-    draft-accepted _ _ _ _ _ _ (fitted .fit .ensures .0) done _ (fitted .fit .ensures .1 done .0) _ _ _ (laid .settle .ensures)
+    draft-accepted _ _ _ _ _ _ (fitted .complete .ensures .0) done _ (fitted .complete .ensures .1 done .0) _ _ _ (laid .lay-draft .ensures)
 
 pub commit-with-spec : {M : Type 1} → statement M
 commit-with-spec =
     tie.close
     (tie.spec
     sub-node-room
-    fit-requires
+    complete-requires
     enum-known-refusal
     enum-told
-    settle-requires
+    lay-draft-requires
     same-length
     same-length-2
     returns

@@ -1,10 +1,10 @@
--- `drafting::committing::settle` meets its contract: what is copied and laid is the one memory of the profile that the draft says.
+-- `drafting::committing::lay_draft` meets its contract: what is copied and laid is the one memory of the profile that the draft says.
 -- Assumes nothing.
 use borrow.Author.Needs.{needs}
 use Rattle.store.proofs.RightSizes.{sizes-in-numbers}
-use Rattle.drafting.proofs.DraftSettled.{drafted-within, draft-laid}
-use Rattle.drafting.proofs.committing.settle.Statement.{statement}
-use Rattle.drafting.proofs.committing.settle.Tie as tie
+use Rattle.drafting.proofs.DraftCommitted.{drafted-within, draft-laid}
+use Rattle.drafting.proofs.committing.lay_draft.Statement.{statement}
+use Rattle.drafting.proofs.committing.lay_draft.Tie as tie
 
 copy-requires : tie.Need-copy-requires
 copy-requires c κs = search needs
@@ -45,8 +45,8 @@ returns c =
     draft-laid _ _ _ _ _ (pre .0) (pre .1) (pre .2) (pre .3) _ _ _ _ _ _ (pre .4) (pre .5)
     (bands .copy .ensures) (nodes .copy2 .ensures) (cleared .clear .ensures) (laid .lay .ensures)
 
-pub settle-spec : {M : Type 1} → statement M
-settle-spec =
+pub lay-draft-spec : {M : Type 1} → statement M
+lay-draft-spec =
     tie.close
     (tie.spec
     copy-requires

@@ -1,4 +1,4 @@
--- `drafting::committing::fit` meets its contract: 11 by the nodes in use, 12 by the marks counted, and else the draft is the profile's node words.
+-- `drafting::committing::complete` meets its contract: 11 by the nodes in use, 12 by the marks counted, and else the draft is the profile's node words.
 -- Assumes nothing.
 use Prim.Native.Nat.{_≤_}
 use native.Mathlib.Omega.{arith}
@@ -11,8 +11,8 @@ use Rattle.marking.proofs.Counted.{zeros-have-room}
 use Rattle.drafting.proofs.LinkedDraft.{in-use-kept}
 use Rattle.drafting.proofs.DraftLaid.{same-in-use, sum-above, sum-within, counts-within, draft-done}
 use Rattle.drafting.proofs.FitLines.{nodes-refused, marks-refused, not-refused}
-use Rattle.drafting.proofs.committing.fit.Statement.{statement}
-use Rattle.drafting.proofs.committing.fit.Tie as tie
+use Rattle.drafting.proofs.committing.complete.Statement.{statement}
+use Rattle.drafting.proofs.committing.complete.Tie as tie
 
 node-word-requires : tie.Need-node-word-requires
 node-word-requires c κs = search needs
@@ -135,8 +135,8 @@ returns-3 c =
           (fenced .lay-fences .ensures),
     )
 
-pub fit-spec : {M : Type 1} → statement M
-fit-spec =
+pub complete-spec : {M : Type 1} → statement M
+complete-spec =
     tie.close
     (tie.spec
     node-word-requires

@@ -41,7 +41,7 @@ use Rattle.marking.proofs.Linked.{Linked}
 use Rattle.marking.proofs.LaidAll.{laid-all}
 use Rattle.laying.proofs.NodesLaid.{laid-links}
 use Rattle.drafting.specs.NodeDraft.{mostDrafted, draftWords}
-use Rattle.drafting.specs.Settled.{fitRefusal, settled, startsBy}
+use Rattle.drafting.specs.Committed.{fitRefusal, committed, startsBy}
 
 -- ---- a completed draft laid
 
@@ -154,8 +154,8 @@ module _
     (judged : says ≡ fitRefusal (roomOf (length nodes / nodePlaceWords - 1) (length marks)) (saidBy draftBands drafted))
   where
     -- refused, memory is as it was
-    pub draft-refused : (says ≡ 0 → ⊥) → leaving says (lent bands nodes marks) ≡ settled (lent bands nodes marks) (saidBy draftBands drafted)
-    unfolding settled roomIn roomFor
+    pub draft-refused : (says ≡ 0 → ⊥) → leaving says (lent bands nodes marks) ≡ committed (lent bands nodes marks) (saidBy draftBands drafted)
+    unfolding committed roomIn roomFor
     draft-refused given = rw (← judged, ne-eqb says 0 given)
 
     module _ (accepted : says ≡ 0) (draftNodes : List ℕ) (completed : draftNodes ≡ laidNodes draftWords (saidBy draftBands drafted)) where
@@ -171,8 +171,8 @@ module _
       -- .. and once it is, memory is that of what was drafted
       pub draft-accepted : (bands′ nodes′ marks′ : List ℕ)
           → lent bands′ nodes′ marks′ ≡ laidMemory (roomIn (lent bands nodes marks)) (saidBy draftBands draftNodes)
-          → leaving 0 (lent bands′ nodes′ marks′) ≡ settled (lent bands nodes marks) (saidBy draftBands drafted)
-      unfolding settled roomIn roomFor
+          → leaving 0 (lent bands′ nodes′ marks′) ≡ committed (lent bands nodes marks) (saidBy draftBands drafted)
+      unfolding committed roomIn roomFor
       draft-accepted bands′ nodes′ marks′ laid =
           rw (← judged, accepted)
           (ap (leaving 0) (laid ∙ ap (laidMemory (roomIn (lent bands nodes marks))) (says-as-before draftBands drafted draftNodes completed)))

@@ -15,8 +15,8 @@ use Rattle.marking.specs.Staircases.{staircases}
 unfoldable pub fitRefusal : Room → Profile → ℕ
 fitRefusal room after = lowest (nodesExceed room after ∷ marksExceed room after ∷ [])
 
-unfoldable pub settled : Memory → Profile → Change Memory
-settled m after = changed (fitRefusal (roomIn m) after) m (laidMemory (roomIn m) after)
+unfoldable pub committed : Memory → Profile → Change Memory
+committed m after = changed (fitRefusal (roomIn m) after) m (laidMemory (roomIn m) after)
 
 -- ---- as the code goes about it
 
