@@ -23,17 +23,11 @@ use Rattle.rules.proofs.Changes.{in-with-band, with-band-ascends}
 use Rattle.store.specs.Sizes.{bandPlaces, bandPlaceWords}
 use Rattle.store.specs.Places.{bandField, withBandField, reserveField}
 use Rattle.store.specs.LaidBands.{laidBandField, laidBands}
-use Rattle.store.specs.WithBand.{withFieldOf, withPlaceOf}
+use Rattle.store.specs.WithBand.{withFields, withPlaceOf}
 use Rattle.store.proofs.Padded.{zeros-read}
 use Rattle.store.proofs.LaidBands.{laid-bands-length, laid-band-word, place-word}
 
 -- ---- the place of a number, field by field
-
--- one field stored more
-pub field-stored : (o : Option Band) (b f : ℕ) {v : ℕ} {before after words : List ℕ} → v ≡ laidBandField o f → after ≡ withBandField before b f v
-    → before ≡ words → after ≡ withFieldOf o b f words
-unfolding withFieldOf
-field-stored o b f told stored e = stored ∙ (λ i. withBandField (e i) b f (told i))
 
 -- the two words after a band's own are 0
 reserve-zero : (o : Option Band) (f : ℕ) → reserveField ≤ f → laidBandField o f ≡ 0
@@ -74,15 +68,15 @@ module _ (b : ℕ) (old new : List Band) (within : b < bandPlaces) (others : (n 
 
   module _ (o : Option Band) (told : bandNumbered b new ≡ o) where
     -- each field stored leaves one less to store
-    laid-next : (f : ℕ) → f < reserveField → (words : List ℕ) → LaidBut f words → LaidBut (suc f) (withFieldOf o b f words)
-    unfolding withFieldOf withBandField bandField
+    laid-next : (f : ℕ) → f < reserveField → (words : List ℕ) → LaidBut f words → LaidBut (suc f) (withBandField words b f (laidBandField o f))
+    unfolding withBandField bandField
     laid-next f k words h = let at = b * bandPlaceWords + f in (
       length-set words at (laidBandField o f) ∙ h .0,
       λ q l off. go q l off (eqb q at) refl,
     )
       where
         go : (q : ℕ) → q < bandPlaces * bandPlaceWords → (FieldFrom b (suc f) q → ⊥) → (t : Bool) → eqb q (b * bandPlaceWords + f) ≡ t
-            → getD (withFieldOf o b f words) q 0 ≡ getD (laidBands new) q 0
+            → getD (withBandField words b f (laidBandField o f)) q 0 ≡ getD (laidBands new) q 0
         go q l off true e =
             let here = eqb-true q (b * bandPlaceWords + f) e in
             rw here
@@ -93,7 +87,7 @@ module _ (b : ℕ) (old new : List Band) (within : b < bandPlaces) (others : (n 
             getD-set-other words (b * bandPlaceWords + f) q (laidBandField o f) 0 beside ∙ h .1 q l (λ a. off (omega arith, a .1))
 
     laid-after : LaidBut reserveField (withPlaceOf o b (laidBands old))
-    unfolding withPlaceOf
+    unfolding withPlaceOf withFields
     laid-after =
         laid-next 5 (omega arith) _
         (laid-next 4 (omega arith) _

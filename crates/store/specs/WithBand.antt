@@ -7,13 +7,18 @@ use Rattle.rules.specs.HallLine.{Band}
 use Rattle.store.specs.Places.{withBandField, liveField, scopeField, lowField, highField, lowClosedField, highClosedField}
 use Rattle.store.specs.LaidBands.{laidBandField}
 
--- a field of the place as the band has it; 0 where there is none
-unfoldable pub withFieldOf : Option Band → ℕ → ℕ → List ℕ → List ℕ
-withFieldOf o b f words = withBandField words b f (laidBandField o f)
+-- the six fields of the place of band number b are these
+unfoldable pub withFields : (b live scope low high lowClosed highClosed : ℕ) → List ℕ → List ℕ
+withFields b live scope low high lowClosed highClosed words =
+    let live-stored = withBandField words b liveField live in
+    let scope-stored = withBandField live-stored b scopeField scope in
+    let low-stored = withBandField scope-stored b lowField low in
+    let high-stored = withBandField low-stored b highField high in
+    let low-closed-stored = withBandField high-stored b lowClosedField lowClosed in
+    withBandField low-closed-stored b highClosedField highClosed
 
--- its six fields; the two words after them are zeros before and after
+-- the fields are as the band has them, 0 where there is none; the two words after them are zeros before and after
 unfoldable pub withPlaceOf : Option Band → ℕ → List ℕ → List ℕ
-withPlaceOf o b words =
-    withFieldOf o b highClosedField
-    (withFieldOf o b lowClosedField
-    (withFieldOf o b highField (withFieldOf o b lowField (withFieldOf o b scopeField (withFieldOf o b liveField words)))))
+withPlaceOf o b =
+    let laid = laidBandField o in
+    withFields b (laid liveField) (laid scopeField) (laid lowField) (laid highField) (laid lowClosedField) (laid highClosedField)

@@ -6,7 +6,7 @@ ghost use Rattle.rules.specs.Connectives.{oneIf, saysYes};
 ghost use Rattle.hall.specs.SaidBand.{said};
 ghost use Rattle.store.specs.Places.{bandField, liveField};
 ghost use Rattle.store.specs.SaidProfile.{saidBand};
-ghost use Rattle.store.specs.WithBand.{withPlaceOf};
+ghost use Rattle.store.specs.WithBand.{withFields, withPlaceOf};
 use crate::places;
 use hall::Band;
 use hall::Key;
@@ -35,28 +35,49 @@ pub fn band_at(bands: &[u32], number: usize) -> Band
 }
 
 // The word for whether an end is closed.
-fn word_of(closed: bool) -> usize
-    ensures { λ r. ⌜ (r ≡ oneIf closed) × (r < 2 ^ 32) ⌝ }
+fn word_of(closed: bool) -> u32
+    ensures { λ r. ⌜ r ≡ oneIf closed ⌝ }
 {
     if closed { 1 } else { 0 }
+}
+
+// The six fields of a number's place are stored.
+fn put_fields(
+    bands: &mut [u32],
+    number: usize,
+    live: u32,
+    scope: u32,
+    low: u32,
+    high: u32,
+    low_closed: u32,
+    high_closed: u32,
+)
+    requires { ⌜ number < 2 ^ 32 ⌝ }
+    ensures { λ _. ⌜ now (bands .exit) ≡ withFields number live scope low high «low_closed» «high_closed» (now (bands .entry)) ⌝ }
+{
+    places::put_band_word(bands, number, places::LIVE, live as usize);
+    places::put_band_word(bands, number, places::SCOPE, scope as usize);
+    places::put_band_word(bands, number, places::LOW, low as usize);
+    places::put_band_word(bands, number, places::HIGH, high as usize);
+    places::put_band_word(bands, number, places::LOW_CLOSED, low_closed as usize);
+    places::put_band_word(bands, number, places::HIGH_CLOSED, high_closed as usize);
 }
 
 // Lays a band in the place of its number.
 pub fn put_band(bands: &mut [u32], band: Band)
     ensures { λ _. ⌜ now (bands .exit) ≡ withPlaceOf (some (said band)) (band .number) (now (bands .entry)) ⌝ }
 {
-    let number = band.number as usize;
-    let scope = band.scope as usize;
-    let low = band.low.0 as usize;
-    let high = band.high.0 as usize;
-    let low_closed = word_of(band.low_closed);
-    let high_closed = word_of(band.high_closed);
-    places::put_band_word(bands, number, places::LIVE, 1);
-    places::put_band_word(bands, number, places::SCOPE, scope);
-    places::put_band_word(bands, number, places::LOW, low);
-    places::put_band_word(bands, number, places::HIGH, high);
-    places::put_band_word(bands, number, places::LOW_CLOSED, low_closed);
-    places::put_band_word(bands, number, places::HIGH_CLOSED, high_closed);
+    let live = 1;
+    put_fields(
+        bands,
+        band.number as usize,
+        live,
+        band.scope,
+        band.low.0,
+        band.high.0,
+        word_of(band.low_closed),
+        word_of(band.high_closed),
+    );
 }
 
 // Frees the place of a number.
@@ -64,10 +85,5 @@ pub fn drop_band(bands: &mut [u32], number: usize)
     requires { ⌜ number < 2 ^ 32 ⌝ }
     ensures { λ _. ⌜ now (bands .exit) ≡ withPlaceOf none number (now (bands .entry)) ⌝ }
 {
-    places::put_band_word(bands, number, places::LIVE, 0);
-    places::put_band_word(bands, number, places::SCOPE, 0);
-    places::put_band_word(bands, number, places::LOW, 0);
-    places::put_band_word(bands, number, places::HIGH, 0);
-    places::put_band_word(bands, number, places::LOW_CLOSED, 0);
-    places::put_band_word(bands, number, places::HIGH_CLOSED, 0);
+    put_fields(bands, number, 0, 0, 0, 0, 0, 0);
 }
