@@ -54,6 +54,7 @@ pub(crate) fn live_with_scarce_marks(heading: &[u8], mark_room: usize)
     let mut nodes = [JUNK; 120];
     let mut marks = [JUNK; 9];
     let mut kept = [0u32; KEPT_WORDS];
+    // Bounds of a part of a slice are both given by name, which the prover takes without help.
     let zero = 0;
     turns::take_all(
         heading,

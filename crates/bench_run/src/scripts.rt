@@ -42,7 +42,7 @@ fn closed(number: u32, scope: u32, low: u32, high: u32) -> Band {
 }
 
 // Before it is made empty the memory is junk, and changes are refused by 1. Then makes the bench profile and asks for all of it. Its bands come in another
-// order than that of their numbers. A level for an end that stands already, or for the high end of a one-key band, is wrong on purpose: it plays no part.
+// order than that of their numbers. A level for an end that stands already, or for the high end of a one-key band, is another on purpose: it plays no part.
 fn bench_made(at: usize) -> Turn {
     match at {
         0 => Turn::Check,

@@ -37,7 +37,7 @@ use Rattle.marking.proofs.StaircasesLay.{marks-count, same-staircases}
 use Rattle.marking.proofs.LaidAll.{starts-are-fences}
 use Rattle.laying.proofs.LinksLaid.{LinksLaid}
 use Rattle.laying.proofs.NodesLaid.{laid-links}
-use Rattle.drafting.specs.NodeDraft.{mostDrafted, draftWords, nodeAt, draftField, DraftOf}
+use Rattle.drafting.specs.NodeDraft.{mostDrafted, draftWords, nthNode, draftField, DraftOf}
 use Rattle.drafting.specs.LinkDraft.{linkedField}
 use Rattle.drafting.specs.FenceDraft.{fencedField}
 use Rattle.drafting.specs.Committed.{startsBy}
@@ -48,7 +48,7 @@ use Rattle.drafting.proofs.FencedDraft.{withCounts, counts-size, nodes-
 
 -- no node stands past the last ..
 free-field : (ns : List Node) (j f : ℕ) → length ns ≤ j → draftField ns (suc j) f ≡ 0
-unfolding draftField nodeAt
+unfolding draftField nthNode
 free-field ns j zero h = ap (λ n. n .key) (List·getD-eq-default ns (nodeOf 0 0) h)
 free-field ns j (suc zero) h = ap (λ n. n .level) (List·getD-eq-default ns (nodeOf 0 0) h)
 free-field ns j (suc (suc f)) h = refl

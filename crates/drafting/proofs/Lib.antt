@@ -5,7 +5,7 @@
 --   FencedDraft    .. and once the header counts lanes and marks and the fences are laid
 --   DraftLaid      .. is the node words of its profile
 --   FitLines       which of 11 and 12 is given
---   DraftCommitted   what comes of a draft: laid into memory, or refused
+--   DraftCommitted what comes of a draft: laid into memory, or refused
 -- As the code goes about them: PutSteps, KeepSteps, LinkLaying, FenceLaying.
 pub mod NodeDraft
 pub mod KeptNodes

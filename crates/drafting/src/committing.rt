@@ -4,7 +4,6 @@ ghost use mathlib.Core.Bool.{true};
 ghost use Prim.Native.Nat.{_*_, _≤_, _<_};
 ghost use lib.ListN.{length, replicate};
 ghost use Rattle.rules.specs.Room.{roomOf, mostNodes, mostMarks};
-ghost use Rattle.rules.specs.Marks.{marksInUse};
 ghost use Rattle.rules.specs.Staircase.{slotsPerNode};
 ghost use Rattle.rules.specs.BoxSaysNo.{leaving};
 ghost use Rattle.rules.specs.SoundMemory.{standing, soundIn};

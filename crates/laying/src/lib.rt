@@ -1,4 +1,4 @@
-// The check of a whole profile in lent memory, made of tests of its parts.
+// The check of a whole profile in lent memory, made of tests of its parts. Noting ends and what is due in a link also serve where a change is drafted.
 mod band_places;
 mod checking;
 mod ends;

@@ -61,7 +61,7 @@ remove-leaves-so P m number scope =
 
 module _ (m : Memory) (b : Band) (lo hi : ℕ) (accepted : insertIn m b lo hi .refusal ≡ 0) where
   -- nothing refuses it
-  pub insert-unrefused : InsertAccepted (sizesRight (lengthsIn m)) (sound m) (roomIn m) (saidProfile m) b lo hi
+  insert-unrefused : InsertAccepted (sizesRight (lengthsIn m)) (sound m) (roomIn m) (saidProfile m) b lo hi
   unfolding insertIn insertRefusalIn
   insert-unrefused = insert-accepted (sizesRight (lengthsIn m)) (sound m) (roomIn m) (saidProfile m) b lo hi .0 accepted
 

@@ -21,6 +21,7 @@
 --   KeepsSound        every call leaves sound memory sound (and every memory as long as it was)
 --   StabExact, EdgeExact, NodeExact, RoomExact    each call in plain words
 --   MarkedByRule      edge and node readouts show exactly the marks that the rule gives, and the room readout their number
+--   OneMemory         equal profiles and lengths, equal memories
 --   ByProfile         each stab and readout is a function of the profile alone
 -- What these are proved with:
 --   CallLines         what a call answers, from plain facts on memory and arguments: a law for each place where its code returns
@@ -40,6 +41,7 @@ pub mod NodeOnLaid
 pub mod EdgeOnLaid
 pub mod RoomOnLaid
 pub mod OnSound
+pub mod OneMemory
 pub mod ByProfile
 pub mod ChangeSteps
 pub mod InsertSteps

@@ -6,7 +6,7 @@ use mathlib.Core.Path.{_≡_, refl, subst}
 use mathlib.Core.Logic.{_↔_, inl, inr}
 use mathlib.Core.List.{[], _∷_, map}
 use native.Mathlib.Omega.{arith}
-use Rattle.rules.specs.BoxSaysNo.{lowest, emptyRefusal, insertRefusal, removeRefusal, stabRefusal, roomReadRefusal}
+use Rattle.rules.specs.BoxSaysNo.{emptyRefusal, insertRefusal, removeRefusal, stabRefusal, roomReadRefusal}
 use Rattle.rules.proofs.Lists.{In, in-map}
 use Rattle.rules.proofs.BoxSaysNo.{GivenExactly, lowest-exactly}
 use Rattle.store.specs.Memory.{Memory}

@@ -1,11 +1,11 @@
--- Words copied over others, one after the other; and that as many come of it as there were.
+-- Words copied over others, one after the other.
 -- Assumes nothing.
 use Prim.Native.Nat.{ℕ, zero, suc, _+_, _≤_, _<_}
-use mathlib.Core.Path.{_≡_, refl, _∙_, ap}
+use mathlib.Core.Path.{_≡_, refl, ap}
 use mathlib.Core.List.{List, [], _∷_, _++_, append-nil}
 use native.Mathlib.Numerals.{add-one}
 use native.Mathlib.Omega.{arith}
-use lib.ListN.{length, getD, take, drop, set, length-append, length-take, length-drop, drop-of-length-le}
+use lib.ListN.{length, getD, take, drop, set, drop-of-length-le}
 use lib.Seq.{take-all}
 use Rattle.store.specs.Words.{copied}
 
@@ -41,12 +41,6 @@ copied-in-room n from to e h =
     let none : drop n to ≡ [] = drop-of-length-le to {i = n} (omega arith) in
     let past : drop (length from) to ≡ [] = drop-of-length-le to {i = length from} (omega arith) in
     rw (none, past, e)
-
-pub copied-length : (from to : List ℕ) → length (copied from to) ≡ length to
-unfolding copied
-copied-length from to =
-    length-append (take (length to) from) (drop (length from) to)
-    ∙ omega (arith, length-take (length to) from, length-drop (length from) to)
 
 -- into words that are no more than there are, the first of them
 pub copied-first : (from to : List ℕ) → length to ≤ length from → copied from to ≡ take (length to) from

@@ -13,11 +13,11 @@ pub const NODE_PLACE_WORDS: usize = 20;
 // A band place: whether the number is live, and the band's numbers.
 pub const LIVE: usize = 0;
 
-pub const SCOPE: usize = 1;
+pub(crate) const SCOPE: usize = 1;
 
-pub const LOW: usize = 2;
+pub(crate) const LOW: usize = 2;
 
-pub const HIGH: usize = 3;
+pub(crate) const HIGH: usize = 3;
 
 pub const LOW_CLOSED: usize = 4;
 
@@ -58,7 +58,7 @@ pub fn band_word(bands: &[u32], number: usize, field: usize) -> usize
 }
 
 // A field of a band's place is stored.
-pub fn put_band_word(bands: &mut [u32], number: usize, field: usize, value: usize)
+pub(crate) fn put_band_word(bands: &mut [u32], number: usize, field: usize, value: usize)
     requires { ⌜ (number < 2 ^ 32) × (field < 8) × (value < 2 ^ 32) ⌝ }
     ensures { λ _. ⌜ now (bands .exit) ≡ withBandField (now (bands .entry)) number field value ⌝ }
 {
