@@ -4,20 +4,17 @@
 use Prim.Native.Nat.{ℕ, _+_, _-_, _*_, _/_, _≤_, _<_}
 use mathlib.Core.Path.{_≡_, sym, _∙_, ap}
 use mathlib.Core.Bool.{true}
-use mathlib.Core.Logic.{_↔_}
 use mathlib.Core.List.{List}
 use native.Mathlib.Omega.{arith}
 use lib.ListN.{length, take, replicate}
 use lib.Seq.{take-all}
 use borrow.Author.Tests.{ne-eqb}
 use Rattle.rules.specs.Profile.{Profile, profileOf}
-use Rattle.rules.specs.Marks.{marksInUse}
 use Rattle.rules.specs.Room.{Room, roomOf, roomInRange, mostNodes}
 use Rattle.rules.specs.BoxSaysNo.{leaving}
 use Rattle.rules.specs.Staircase.{slotsPerNode}
 use Rattle.rules.specs.SoundMemory.{standing, soundIn}
-use Rattle.rules.proofs.Means.{lt-fails}
-use Rattle.rules.proofs.BoxSaysNo.{line-zero, last-zero, room-in-range-means}
+use Rattle.rules.proofs.BoxSaysNo.{room-in-range-means}
 use Rattle.rules.proofs.SoundMemory.{standing-means, sound-in-means}
 use Rattle.store.specs.Sizes.{nodePlaceWords, sizesRight, roomFor}
 use Rattle.store.specs.Places.{inUse}
@@ -42,6 +39,7 @@ use Rattle.marking.proofs.LaidAll.{laid-all}
 use Rattle.laying.proofs.NodesLaid.{laid-links}
 use Rattle.drafting.specs.NodeDraft.{mostDrafted, draftWords}
 use Rattle.drafting.specs.Committed.{fitRefusal, committed, startsBy}
+use Rattle.drafting.proofs.FitLines.{fit-refusal-zero}
 
 -- ---- a completed draft laid
 
@@ -122,12 +120,6 @@ module _
         ((m ∙ ap (λ l. laidMarks (l .marks) said) same) i)
 
 -- ---- a draft judged
-
--- neither 11 nor 12 is given exactly when nodes and marks are within the room
-fit-refusal-zero : (room : Room) (p : Profile) → (fitRefusal room p ≡ 0) ↔ ((length (p .nodes) ≤ room .nodes) × (marksInUse p ≤ room .marks))
-unfolding fitRefusal
-fit-refusal-zero room p =
-    line-zero 11 (omega arith) (lt-fails (room .nodes) (length (p .nodes))) (last-zero 12 (omega arith) (lt-fails (room .marks) (marksInUse p)))
 
 -- so a profile that stands is one that memory of such a room can hold
 accepted-sound : (room : Room) (p : Profile) → roomInRange room ≡ true → standing p ≡ true → fitRefusal room p ≡ 0 → soundIn room p ≡ true

@@ -3,19 +3,19 @@
 -- Assumes nothing.
 use Prim.Native.Nat.{ℕ, _≤_, _<_}
 use mathlib.Core.Path.{_≡_, sym, _∙_, ap}
-use mathlib.Core.Bool.{true, false}
+use mathlib.Core.Bool.{Bool, true, false}
 use mathlib.Core.Logic.{_↔_, Iff·trans, _⊎_}
-use mathlib.Core.List.{[], _∷_}
+use mathlib.Core.List.{List, [], _∷_}
 use native.Mathlib.Omega.{arith}
 use Rattle.rules.specs.Connectives.{saysYes}
 use Rattle.rules.specs.HallLine.{highestKey, highestBandNumber}
 use Rattle.rules.specs.NodesLanesEdges.{lanes, levelAt}
 use Rattle.rules.specs.Profile.{Profile, isLive}
-use Rattle.rules.specs.BoxSaysNo.{sizesWrong, numberAbove, keyAbove, notLive, notThere, emptyRefusal, stabRefusal, bandReadRefusal, bandReadAnswer, edgeReadAnswer, nodeReadAnswer, roomReadRefusal}
+use Rattle.rules.specs.BoxSaysNo.{lowest, TableLine, sizesWrong, numberAbove, keyAbove, notLive, notThere, emptyRefusal, stabRefusal, bandReadRefusal, bandReadAnswer, edgeReadAnswer, nodeReadAnswer, roomReadRefusal}
 use Rattle.rules.proofs.Means.{itself, denied, not-means, not-fails, and-means, and-fails, lt-means, lt-fails, eq-means}
 use Rattle.rules.proofs.Lists.{Some, Each}
 use Rattle.rules.proofs.NodesLanesEdges.{level-there}
-use Rattle.rules.proofs.BoxSaysNo.{sizes-wrong-means, number-above-means, key-above-means, line-own, last-own, last-zero, line-zero, empty-accepted, room-accepted, stab-accepted, band-accepted, band-gives-9, edge-accepted, node-accepted, line-passed, line-gives}
+use Rattle.rules.proofs.BoxSaysNo.{Ordered, sizes-wrong-means, number-above-means, key-above-means, line-own, last-own, last-zero, line-zero, empty-accepted, room-accepted, stab-accepted, band-accepted, band-gives-9, edge-accepted, node-accepted, line-passed, line-gives}
 use Rattle.store.specs.Sizes.{sizesRight}
 use Rattle.store.specs.Memory.{Memory, lengthsIn}
 use Rattle.store.specs.Places.{nodeField, levelField}
@@ -53,6 +53,28 @@ module _ (m : Memory) where
       let right = sizesRight (lengthsIn m) in
       record { gives-1 = line-gives (sizesWrong right) [] (omega arith) tt (sizes-wrong-means right); gives-0 = room-accepted right }
 
+-- ---- where a key is given: 1 and 4 come before the lines of higher numbers
+
+module _ (right : Bool) (k : ℕ) (ls : List TableLine) (in-order : Ordered 4 ls) (higher : Ordered 5 ls) where
+  abbrev keyLines : List TableLine
+  keyLines = sizesWrong right ∷ keyAbove k ∷ ls
+
+  first-1 : (lowest keyLines ≡ 1) ↔ (right ≡ false)
+  first-1 = line-gives (sizesWrong right) (keyAbove k ∷ ls) (omega arith) (omega arith, in-order) (sizes-wrong-means right)
+
+  then-4 : (lowest keyLines ≡ 4) ↔ ((right ≡ true) × (highestKey < k))
+  then-4 =
+      line-passed (sizesWrong right) (keyAbove k ∷ ls) (omega arith) (not-fails (itself right))
+      (line-gives (keyAbove k) ls (omega arith) higher (key-above-means k))
+
+  -- a number above 4 is given where neither applies and the lines after them give it
+  past-4 : {s : ℕ} {Y : Type 0} → 4 < s → (lowest ls ≡ s) ↔ Y → (lowest keyLines ≡ s) ↔ ((right ≡ true) × (k ≤ highestKey) × Y)
+  past-4 h e =
+      Iff·trans
+      (line-passed (sizesWrong right) (keyAbove k ∷ ls) (omega arith) (not-fails (itself right))
+      (line-passed (keyAbove k) ls h (lt-fails highestKey k) e))
+      (λ f. (f .0, f .1 .0, f .1 .1), λ f. (f .0, (f .1, f .2)))
+
 -- ---- stab: 1 and 4
 
 pub record StabGives (m : Memory) (k n : ℕ) : Type 0 where
@@ -65,10 +87,8 @@ unfolding stabIn stabRefusal
 stab-refused-exactly m k =
     let right = sizesRight (lengthsIn m) in
     record {
-      gives-1 = line-gives (sizesWrong right) (keyAbove k ∷ []) (omega arith) (omega arith) (sizes-wrong-means right);
-      gives-4 =
-          line-passed (sizesWrong right) (keyAbove k ∷ []) (omega arith) (not-fails (itself right))
-          (line-gives (keyAbove k) [] (omega arith) tt (key-above-means k));
+      gives-1 = first-1 right k [] tt tt;
+      gives-4 = then-4 right k [] tt tt;
       gives-0 = stab-accepted right k;
     }
 
@@ -133,19 +153,13 @@ module _ (m : Memory) (k lane : ℕ) where
       let level = nodeField (m .nodes) place levelField in
       let last = notThere (hasLane (m .nodes) place lane) ∷ [] in
       let from-13 = notThere (saysYes place) ∷ last in
-      let from-4 = keyAbove k ∷ from-13 in
       record {
-        gives-1 = line-gives (sizesWrong right) from-4 (omega arith) (omega arith) (sizes-wrong-means right);
-        gives-4 =
-            line-passed (sizesWrong right) from-4 (omega arith) (not-fails (itself right))
-            (line-gives (keyAbove k) from-13 (omega arith) (omega arith) (key-above-means k));
+        gives-1 = first-1 right k from-13 (omega arith) (omega arith);
+        gives-4 = then-4 right k from-13 (omega arith) (omega arith);
         gives-13 =
-            Iff·trans
-            (line-passed (sizesWrong right) from-4 (omega arith) (not-fails (itself right))
-            (line-passed (keyAbove k) from-13 (omega arith) (lt-fails highestKey k)
+            past-4 right k from-13 (omega arith) (omega arith) (omega arith)
             (line-own 13 (not-means (not-fails (eq-means place 0)))
-            (last-own 13 (omega arith) (not-means (and-fails (lt-fails lane lanes) (lt-fails lane level)))))))
-            (λ f. (f .0, f .1 .0, f .1 .1), λ f. (f .0, (f .1, f .2)));
+            (last-own 13 (omega arith) (not-means (and-fails (lt-fails lane lanes) (lt-fails lane level)))));
         gives-0 =
             Iff·trans
             (line-zero 1 (omega arith) (not-fails (itself right))
@@ -204,18 +218,12 @@ module _ (m : Memory) (k : ℕ) where
       let right = sizesRight (lengthsIn m) in
       let place = placeOf (m .nodes) k in
       let from-13 = notThere (saysYes place) ∷ [] in
-      let from-4 = keyAbove k ∷ from-13 in
       record {
-        gives-1 = line-gives (sizesWrong right) from-4 (omega arith) (omega arith) (sizes-wrong-means right);
-        gives-4 =
-            line-passed (sizesWrong right) from-4 (omega arith) (not-fails (itself right))
-            (line-gives (keyAbove k) from-13 (omega arith) (omega arith) (key-above-means k));
+        gives-1 = first-1 right k from-13 (omega arith) (omega arith);
+        gives-4 = then-4 right k from-13 (omega arith) (omega arith);
         gives-13 =
-            Iff·trans
-            (line-passed (sizesWrong right) from-4 (omega arith) (not-fails (itself right))
-            (line-passed (keyAbove k) from-13 (omega arith) (lt-fails highestKey k)
-            (line-gives (notThere (saysYes place)) [] (omega arith) tt (not-means (not-fails (eq-means place 0))))))
-            (λ f. (f .0, f .1 .0, f .1 .1), λ f. (f .0, (f .1, f .2)));
+            past-4 right k from-13 (omega arith) (omega arith) (omega arith)
+            (line-gives (notThere (saysYes place)) [] (omega arith) tt (not-means (not-fails (eq-means place 0))));
         gives-0 =
             Iff·trans
             (line-zero 1 (omega arith) (not-fails (itself right))

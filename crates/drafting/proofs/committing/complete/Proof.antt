@@ -1,5 +1,6 @@
 -- `drafting::committing::complete` meets its contract: 11 by the nodes in use, 12 by the marks counted, and else the draft is the profile's node words.
 -- Assumes nothing.
+use mathlib.Core.Path.{sym}
 use Prim.Native.Nat.{_≤_}
 use native.Mathlib.Omega.{arith}
 use borrow.Author.Needs.{needs}
@@ -10,7 +11,7 @@ use Rattle.store.proofs.SaidNodes.{said-nodes-length}
 use Rattle.marking.proofs.Counted.{zeros-have-room}
 use Rattle.drafting.proofs.LinkedDraft.{in-use-kept}
 use Rattle.drafting.proofs.DraftLaid.{same-in-use, sum-above, sum-within, counts-within, draft-done}
-use Rattle.drafting.proofs.FitLines.{nodes-refused, marks-refused, not-refused}
+use Rattle.drafting.proofs.FitLines.{nodes-refused, marks-refused, fit-refusal-zero}
 use Rattle.drafting.proofs.committing.complete.Statement.{statement}
 use Rattle.drafting.proofs.committing.complete.Tie as tie
 
@@ -127,8 +128,8 @@ returns-3 c =
     let pre = start .pre in
     let fit = roomy .if2 .left in
     let few = nodes-fit passed in (
-      not-refused (roomOf (args .node-room) (args .mark-room)) (saidBy bands draft) few
-          (sum-within bands (pre .0) (pre .1) (linked .lay-links .ensures) (pre .4) (counted .count .ensures) fit),
+      sym (fit-refusal-zero (roomOf (args .node-room) (args .mark-room)) (saidBy bands draft) .1
+          (few, sum-within bands (pre .0) (pre .1) (linked .lay-links .ensures) (pre .4) (counted .count .ensures) fit)),
       λ e.
           draft-done bands (pre .0) (pre .1) (linked .lay-links .ensures) (pre .4) (counted .count .ensures) fit
           (omega (arith, said-nodes-length draft)) (laned .put-node-word .ensures) (marked .put-node-word2 .ensures) (started .to-starts .ensures)
