@@ -1,0 +1,49 @@
+// Bytes put into a buffer. Each function takes how many bytes the buffer holds, and tells how many it holds afterwards.
+// A byte for which there is no room is dropped: whoever lends the buffer sees to room for the longest answer.
+
+// The numbers of bands.
+const NUMBERS: u32 = 1024;
+
+fn put_byte(output: &mut [u8], written: usize, byte: u8) -> usize {
+    if written < output.len() {
+        output[written] = byte;
+        return written + 1;
+    }
+    written
+}
+
+pub(crate) fn put(output: &mut [u8], written: usize, text: &[u8]) -> usize {
+    let mut at = written;
+    let mut from = 0;
+    while from < text.len() {
+        at = put_byte(output, at, text[from]);
+        from += 1;
+    }
+    at
+}
+
+pub(crate) fn put_number(output: &mut [u8], written: usize, number: u32) -> usize {
+    let mut digits = [0u8; 20];
+    let count = io::decimal(number as u64, &mut digits);
+    put(output, written, &digits[..count])
+}
+
+// The number with a blank before it, if its flag is set.
+fn put_if_flagged(output: &mut [u8], written: usize, flags: &[u64; 16], number: u32) -> usize {
+    if flags::is_set(flags, number) {
+        let spaced = put(output, written, b" ");
+        return put_number(output, spaced, number);
+    }
+    written
+}
+
+// The numbers whose flags are set, ascending.
+pub(crate) fn put_flagged(output: &mut [u8], written: usize, flags: &[u64; 16]) -> usize {
+    let mut at = written;
+    let mut number = 0;
+    while number < NUMBERS {
+        at = put_if_flagged(output, at, flags, number);
+        number += 1;
+    }
+    at
+}

@@ -1,0 +1,20 @@
+// The desk's lines: from bytes to the command that they say, or to what is wrong with them. A line is all that is seen here.
+mod commands;
+mod faults;
+mod keys;
+mod numbers;
+mod reading;
+mod stretches;
+mod words;
+
+pub use commands::Change;
+pub use commands::Command;
+pub use commands::Lending;
+pub use commands::Poking;
+pub use commands::Question;
+pub use commands::Slice;
+pub use commands::Use;
+pub use faults::Fault;
+pub use reading::LINE_STORE;
+pub use reading::NAMES;
+pub use reading::read_line;

@@ -1,0 +1,273 @@
+// From a line to the command that it says. It sees the line alone.
+use crate::commands::Change;
+use crate::commands::Command;
+use crate::commands::Lending;
+use crate::commands::Poking;
+use crate::commands::Question;
+use crate::commands::Slice;
+use crate::commands::Use;
+use crate::faults;
+use crate::faults::Fault;
+use crate::keys;
+use crate::numbers;
+use crate::stretches;
+use crate::words;
+use hall::Band;
+
+// The commands' names, as `help` tells them. `read_named` goes by a name's place among them.
+pub const NAMES: [u8; 89] =
+    *b"memory lengths fill poke peek sum empty insert remove stab check band edge node room help";
+
+const COMMANDS: usize = 16;
+
+// The longest line, and how many bytes are to be kept of one: the longest line and a carriage return.
+const LONGEST_LINE: usize = 200;
+
+pub const LINE_STORE: usize = 201;
+
+// A slice's name, or what is wrong and some slice.
+pub struct SliceRead {
+    pub fault: Fault,
+    pub slice: Slice,
+}
+
+impl SliceRead {
+    // What is wrong with it, or else with what stands further right.
+    fn fault_or(self, right: Fault) -> Fault {
+        let fault = self.fault;
+        faults::leftmost(fault, right)
+    }
+}
+
+fn slice_of(word: &[u8]) -> SliceRead {
+    if words::is(word, b"bands") {
+        return SliceRead {
+            fault: Fault::None,
+            slice: Slice::Bands,
+        };
+    }
+    if words::is(word, b"nodes") {
+        return SliceRead {
+            fault: Fault::None,
+            slice: Slice::Nodes,
+        };
+    }
+    if words::is(word, b"marks") {
+        return SliceRead {
+            fault: Fault::None,
+            slice: Slice::Marks,
+        };
+    }
+    SliceRead {
+        fault: Fault::NotASlice,
+        slice: Slice::Bands,
+    }
+}
+
+fn slice_at(line: &[u8], place: usize) -> SliceRead {
+    let word = words::word(line, place);
+    if word.len() == 0 {
+        return SliceRead {
+            fault: Fault::WordMissing,
+            slice: Slice::Bands,
+        };
+    }
+    slice_of(word)
+}
+
+// The command, if nothing is wrong with its words.
+fn unless(fault: Fault, command: Command) -> Command {
+    if let Fault::None = fault {
+        command
+    } else {
+        Command::Wrong(fault)
+    }
+}
+
+// A command that takes no word.
+fn alone(line: &[u8], command: Command) -> Command {
+    unless(faults::words_past(line, 1), command)
+}
+
+fn memory(line: &[u8]) -> Command {
+    let nodes = numbers::number_at(line, 1);
+    let marks = numbers::number_at(line, 2);
+    let fault = nodes.fault_or(marks.fault_or(faults::words_past(line, 3)));
+    unless(
+        fault,
+        Command::Lend(Lending::Memory(nodes.number, marks.number)),
+    )
+}
+
+fn lengths(line: &[u8]) -> Command {
+    let bands = numbers::number_at(line, 1);
+    let nodes = numbers::number_at(line, 2);
+    let marks = numbers::number_at(line, 3);
+    let after_bands = nodes.fault_or(marks.fault_or(faults::words_past(line, 4)));
+    let fault = bands.fault_or(after_bands);
+    let lending = Lending::Lengths(bands.number, nodes.number, marks.number);
+    unless(fault, Command::Lend(lending))
+}
+
+fn fill(line: &[u8]) -> Command {
+    let word = numbers::number_at(line, 1);
+    let fault = word.fault_or(faults::words_past(line, 2));
+    unless(fault, Command::Use(Use::Words(Poking::Fill(word.number))))
+}
+
+fn poke(line: &[u8]) -> Command {
+    let slice_read = slice_at(line, 1);
+    let index = numbers::number_at(line, 2);
+    let word = numbers::number_at(line, 3);
+    let after_slice = index.fault_or(word.fault_or(faults::words_past(line, 4)));
+    let fault = slice_read.fault_or(after_slice);
+    let slice = slice_read.slice;
+    unless(
+        fault,
+        Command::Use(Use::Words(Poking::Poke(slice, index.number, word.number))),
+    )
+}
+
+fn peek(line: &[u8]) -> Command {
+    let slice_read = slice_at(line, 1);
+    let index = numbers::number_at(line, 2);
+    let fault = slice_read.fault_or(index.fault_or(faults::words_past(line, 3)));
+    let slice = slice_read.slice;
+    unless(
+        fault,
+        Command::Use(Use::Words(Poking::Peek(slice, index.number))),
+    )
+}
+
+fn insert(line: &[u8]) -> Command {
+    let number = numbers::number_at(line, 1);
+    let scope = numbers::number_at(line, 2);
+    let stretch = stretches::stretch_at(line, 3);
+    let low_level = numbers::number_at(line, 4);
+    let high_level = numbers::number_at(line, 5);
+    let level_fault = low_level.fault_or(high_level.fault_or(faults::words_past(line, 6)));
+    let fault = number.fault_or(scope.fault_or(stretch.fault_or(level_fault)));
+    let low = stretch.low;
+    let high = stretch.high;
+    let band = Band {
+        number: number.number,
+        scope: scope.number,
+        low,
+        high,
+        low_closed: stretch.low_closed,
+        high_closed: stretch.high_closed,
+    };
+    unless(
+        fault,
+        Command::Use(Use::Change(Change::Insert(band, low_level.number, high_level.number))),
+    )
+}
+
+fn remove(line: &[u8]) -> Command {
+    let number = numbers::number_at(line, 1);
+    let scope = numbers::number_at(line, 2);
+    let fault = number.fault_or(scope.fault_or(faults::words_past(line, 3)));
+    unless(
+        fault,
+        Command::Use(Use::Change(Change::Remove(number.number, scope.number))),
+    )
+}
+
+fn stab(line: &[u8]) -> Command {
+    let read = keys::key_at(line, 1);
+    let fault = read.fault_or(faults::words_past(line, 2));
+    let key = read.key;
+    unless(fault, Command::Use(Use::Ask(Question::Stab(key))))
+}
+
+fn band(line: &[u8]) -> Command {
+    let number = numbers::number_at(line, 1);
+    let fault = number.fault_or(faults::words_past(line, 2));
+    unless(fault, Command::Use(Use::Ask(Question::Band(number.number))))
+}
+
+fn edge(line: &[u8]) -> Command {
+    let read = keys::key_at(line, 1);
+    let lane = numbers::number_at(line, 2);
+    let fault = read.fault_or(lane.fault_or(faults::words_past(line, 3)));
+    let key = read.key;
+    unless(
+        fault,
+        Command::Use(Use::Ask(Question::Edge(key, lane.number))),
+    )
+}
+
+fn node(line: &[u8]) -> Command {
+    let read = keys::key_at(line, 1);
+    let fault = read.fault_or(faults::words_past(line, 2));
+    let key = read.key;
+    unless(fault, Command::Use(Use::Ask(Question::Node(key))))
+}
+
+// The place of a name among the commands' names; their number where there is none.
+fn place_among(name: &[u8], names: &[u8]) -> usize {
+    let mut place = 0;
+    while place < COMMANDS {
+        if words::is(name, words::word(names, place)) {
+            return place;
+        }
+        place += 1;
+    }
+    place
+}
+
+fn read_named(place: usize, line: &[u8]) -> Command {
+    match place {
+        0 => memory(line),
+        1 => lengths(line),
+        2 => fill(line),
+        3 => poke(line),
+        4 => peek(line),
+        5 => alone(line, Command::Use(Use::Words(Poking::Sum))),
+        6 => alone(line, Command::Use(Use::Change(Change::Empty))),
+        7 => insert(line),
+        8 => remove(line),
+        9 => stab(line),
+        10 => alone(line, Command::Use(Use::Ask(Question::Check))),
+        11 => band(line),
+        12 => edge(line),
+        13 => node(line),
+        14 => alone(line, Command::Use(Use::Ask(Question::Room))),
+        15 => alone(line, Command::Help),
+        _ => Command::Wrong(Fault::NoSuchCommand),
+    }
+}
+
+fn read(line: &[u8]) -> Command {
+    let name = words::word(line, 0);
+    if name.len() == 0 {
+        return Command::Nothing;
+    }
+    if name[0] == b'#' {
+        return Command::Nothing;
+    }
+    let names = NAMES;
+    read_named(place_among(name, &names), line)
+}
+
+// The length of a line without a carriage return at its end.
+fn length_without_return(line: &[u8], length: usize) -> usize {
+    if 0 < length {
+        let last = length - 1;
+        if last < line.len() {
+            if line[last] == b'\r' {
+                return last;
+            }
+        }
+    }
+    length
+}
+
+// The command that is said by so many bytes of what is kept of a line.
+pub fn read_line(line: &[u8], length: usize) -> Command {
+    let shorn = length_without_return(line, length);
+    if LONGEST_LINE < shorn {
+        return Command::Wrong(Fault::LineTooLong);
+    }
+    read(words::before(line, shorn))
+}

@@ -1,0 +1,81 @@
+// The words of a line: what stands between blanks.
+
+fn is_blank(byte: u8) -> bool {
+    (byte == b' ') | (byte == b'\t')
+}
+
+// From an index on, the first byte that is blank, or the first that is not; the line's length where there is none.
+fn next_place(line: &[u8], from: usize, blank: bool) -> usize {
+    let mut at = from;
+    while at < line.len() {
+        if is_blank(line[at]) == blank {
+            return at;
+        }
+        at += 1;
+    }
+    at
+}
+
+// The bytes from an index up to another; none where there is no such part.
+fn part(bytes: &[u8], start: usize, end: usize) -> &[u8] {
+    if end <= bytes.len() {
+        if start <= end {
+            return &bytes[start..end];
+        }
+    }
+    let zero = 0;
+    &bytes[zero..zero]
+}
+
+// The bytes before an index.
+pub(crate) fn before(bytes: &[u8], place: usize) -> &[u8] {
+    part(bytes, 0, place)
+}
+
+// The bytes past the one at an index; none where there is no such byte.
+pub(crate) fn after(bytes: &[u8], place: usize) -> &[u8] {
+    if place < bytes.len() {
+        return part(bytes, place + 1, bytes.len());
+    }
+    part(bytes, 0, 0)
+}
+
+// Where a byte first stands; the length where it does not.
+pub(crate) fn place_of(byte: u8, bytes: &[u8]) -> usize {
+    let mut at = 0;
+    while at < bytes.len() {
+        if bytes[at] == byte {
+            return at;
+        }
+        at += 1;
+    }
+    at
+}
+
+// The word with so many words before it; no bytes where the line has none.
+pub(crate) fn word(line: &[u8], place: usize) -> &[u8] {
+    let mut start = next_place(line, 0, false);
+    let mut end = next_place(line, start, true);
+    let mut passed = 0;
+    while passed < place {
+        start = next_place(line, end, false);
+        end = next_place(line, start, true);
+        passed += 1;
+    }
+    part(line, start, end)
+}
+
+// Whether a word is this one, byte for byte.
+pub(crate) fn is(word: &[u8], name: &[u8]) -> bool {
+    if word.len() != name.len() {
+        return false;
+    }
+    let mut at = 0;
+    while at < name.len() {
+        if word[at] != name[at] {
+            return false;
+        }
+        at += 1;
+    }
+    true
+}
