@@ -90,7 +90,7 @@ fn flushed(desk: Desk, output: &[u8]) -> Desk {
 
 // The desk at its start: the largest memory, made empty. The answer to that is not kept.
 fn begin(bands: &mut [u32], nodes: &mut [u32], marks: &mut [u32], output: &mut [u8]) -> Desk {
-    let lent = lending::largest();
+    let lent = lending::at_start();
     doing::lend_for(
         Use::Change(Change::Empty),
         lent,

@@ -20,7 +20,7 @@ fn use_words(
     written: usize,
 ) -> usize {
     match wanted {
-        Use::Words(poking) => poking::act(poking, bands, nodes, marks, output, written),
+        Use::Words(poking) => poking::do_poking(poking, bands, nodes, marks, output, written),
         Use::Change(change) => calling::change(change, bands, nodes, marks, output, written),
         Use::Ask(question) => calling::ask(question, bands, nodes, marks, output, written),
     }

@@ -3,18 +3,14 @@ ghost use Prim.Native.Nat.{_≤_};
 ghost use lib.ListN.{length};
 use desk_lines::Lending;
 
-// The most that can be lent.
-const MOST_BANDS: u32 = 8200;
+// The words that the desk has: some more than the largest memory of the box, so that lengths that are too large can be lent as well.
+pub const BAND_STORE: usize = 8200;
 
-const MOST_NODES: u32 = 41020;
+pub const NODE_STORE: usize = 41020;
 
-const MOST_MARKS: u32 = 16400;
+pub const MARK_STORE: usize = 16400;
 
-// Memory by its rooms: its band words, and the words for a node and for the header.
-const BAND_WORDS: u32 = 8192;
-
-const NODE_PLACE_WORDS: u32 = 20;
-
+// The most nodes for which there are words.
 const MOST_NODE_ROOM: u32 = 2050;
 
 pub struct Lent {
@@ -29,37 +25,45 @@ pub enum Found {
     NoSuchMemory,
 }
 
-fn lengths(bands: u32, nodes: u32, marks: u32) -> Found {
-    if (MOST_BANDS < bands) | (MOST_NODES < nodes) | (MOST_MARKS < marks) {
+fn lengths(bands: usize, nodes: usize, marks: usize) -> Found {
+    if (BAND_STORE < bands) | (NODE_STORE < nodes) | (MARK_STORE < marks) {
         return Found::NoSuchMemory;
     }
     Found::Lent(Lent {
-        bands: bands as usize,
-        nodes: nodes as usize,
-        marks: marks as usize,
+        bands,
+        nodes,
+        marks,
     })
 }
 
+// By rooms: a place for each node and one for the header, and a word for each mark.
 fn memory(nodes: u32, marks: u32) -> Found {
     if MOST_NODE_ROOM < nodes {
         return Found::NoSuchMemory;
     }
-    lengths(BAND_WORDS, NODE_PLACE_WORDS * (nodes + 1), marks)
+    let places = nodes as usize + 1;
+    lengths(
+        store::BAND_WORDS,
+        store::NODE_PLACE_WORDS * places,
+        marks as usize,
+    )
 }
 
 pub(crate) fn find(lending: Lending) -> Found {
     match lending {
         Lending::Memory(nodes, marks) => memory(nodes, marks),
-        Lending::Lengths(bands, nodes, marks) => lengths(bands, nodes, marks),
+        Lending::Lengths(bands, nodes, marks) => {
+            lengths(bands as usize, nodes as usize, marks as usize)
+        }
     }
 }
 
-// The lengths at the start: the largest memory.
-pub(crate) fn largest() -> Lent {
+// At the start: the largest memory that the box takes.
+pub(crate) fn at_start() -> Lent {
     Lent {
-        bands: 8192,
-        nodes: 40980,
-        marks: 16384,
+        bands: store::BAND_WORDS,
+        nodes: store::NODE_PLACE_WORDS * (store::MOST_NODES + 1),
+        marks: store::MOST_MARKS,
     }
 }
 

@@ -8,20 +8,13 @@ mod output;
 mod poking;
 mod state;
 
-// The words that the desk has to lend: some more than the largest memory has, so that lengths that are too large can be lent as well.
-const BAND_STORE: usize = 8200;
-
-const NODE_STORE: usize = 41020;
-
-const MARK_STORE: usize = 16400;
-
 // How many bytes are read at a time, and how many are kept before they are written.
 const BUFFER: usize = 65536;
 
 fn main() {
-    let mut bands = [0u32; BAND_STORE];
-    let mut nodes = [0u32; NODE_STORE];
-    let mut marks = [0u32; MARK_STORE];
+    let mut bands = [0u32; lending::BAND_STORE];
+    let mut nodes = [0u32; lending::NODE_STORE];
+    let mut marks = [0u32; lending::MARK_STORE];
     let mut line = [0u8; desk_lines::LINE_STORE];
     let mut input = [0u8; BUFFER];
     let mut output = [0u8; BUFFER];

@@ -3,7 +3,9 @@ use desk_lines::Fault;
 use desk_lines::Poking;
 use desk_lines::Slice;
 
-// The sum is taken modulo this prime.
+// Each word is added to so many times the sum of those before it, modulo a prime.
+const TIMES: u64 = 31;
+
 const PRIME: u64 = 4294967291;
 
 fn fill(words: &mut [u32], word: u32) {
@@ -16,7 +18,7 @@ fn fill(words: &mut [u32], word: u32) {
 
 // The sum with a word more.
 fn sum_with(sum: u64, word: u32) -> u64 {
-    (sum % PRIME * 31 + word as u64 + 1) % PRIME
+    (sum % PRIME * TIMES + word as u64 + 1) % PRIME
 }
 
 fn sum_on(sum: u64, words: &[u32]) -> u64 {
@@ -90,7 +92,7 @@ fn tell_sum(
     desk_answers::tell_number(output, written, (sum % PRIME) as u32)
 }
 
-pub(crate) fn act(
+pub(crate) fn do_poking(
     poking: Poking,
     bands: &mut [u32],
     nodes: &mut [u32],

@@ -63,14 +63,14 @@ pub fn tell_stab(output: &mut [u8], written: usize, read: StabRead) -> usize {
         return refusals::tell(output, written, refusal);
     }
     let flags = read.flags;
-    let counted = put_value(output, written, b"0 count ", read.count);
-    let met = put_value(output, counted, b" met ", read.met);
-    let looked = put_value(output, met, b" looks ", read.looks);
-    put_bands(output, looked, &flags)
+    let after_count = put_value(output, written, b"0 count ", read.count);
+    let after_met = put_value(output, after_count, b" met ", read.met);
+    let after_looks = put_value(output, after_met, b" looks ", read.looks);
+    put_bands(output, after_looks, &flags)
 }
 
 // The ends as numbers, with a square bracket at a closed end and a round one at an open end.
-fn put_low_end(output: &mut [u8], written: usize, low: Key, closed: bool) -> usize {
+fn begin_stretch(output: &mut [u8], written: usize, low: Key, closed: bool) -> usize {
     if closed {
         put_value(output, written, b" stretch [", low.0)
     } else {
@@ -78,7 +78,7 @@ fn put_low_end(output: &mut [u8], written: usize, low: Key, closed: bool) -> usi
     }
 }
 
-fn put_high_end(output: &mut [u8], written: usize, high: Key, closed: bool) -> usize {
+fn end_stretch(output: &mut [u8], written: usize, high: Key, closed: bool) -> usize {
     let told = put_value(output, written, b",", high.0);
     if closed {
         writing::put(output, told, b"]\n")
@@ -94,9 +94,9 @@ pub fn tell_band(output: &mut [u8], written: usize, read: BandRead) -> usize {
     }
     let low = read.low;
     let high = read.high;
-    let scope = put_value(output, written, b"0 scope ", read.scope);
-    let opened = put_low_end(output, scope, low, read.low_closed);
-    put_high_end(output, opened, high, read.high_closed)
+    let after_scope = put_value(output, written, b"0 scope ", read.scope);
+    let after_low = begin_stretch(output, after_scope, low, read.low_closed);
+    end_stretch(output, after_low, high, read.high_closed)
 }
 
 fn put_next(output: &mut [u8], written: usize, next: Next) -> usize {
@@ -132,7 +132,7 @@ pub fn tell_room(output: &mut [u8], written: usize, read: RoomRead) -> usize {
     if let Answer::Refused(refusal) = answer {
         return refusals::tell(output, written, refusal);
     }
-    let nodes = put_value(output, written, b"0 nodes ", read.nodes);
-    let marks = put_value(output, nodes, b" marks ", read.marks);
-    writing::put(output, marks, b"\n")
+    let after_nodes = put_value(output, written, b"0 nodes ", read.nodes);
+    let after_marks = put_value(output, after_nodes, b" marks ", read.marks);
+    writing::put(output, after_marks, b"\n")
 }

@@ -1,8 +1,6 @@
 // Bytes put into a buffer. Each function takes how many bytes the buffer holds, and tells how many it holds afterwards.
 // A byte for which there is no room is dropped: whoever lends the buffer sees to room for the longest answer.
-
-// The numbers of bands.
-const NUMBERS: u32 = 1024;
+use hall::Band;
 
 fn put_byte(output: &mut [u8], written: usize, byte: u8) -> usize {
     if written < output.len() {
@@ -41,7 +39,7 @@ fn put_if_flagged(output: &mut [u8], written: usize, flags: &[u64; 16], number: 
 pub(crate) fn put_flagged(output: &mut [u8], written: usize, flags: &[u64; 16]) -> usize {
     let mut at = written;
     let mut number = 0;
-    while number < NUMBERS {
+    while number <= Band::HIGHEST_NUMBER {
         at = put_if_flagged(output, at, flags, number);
         number += 1;
     }

@@ -1,4 +1,4 @@
-// What a line asks of the desk, by kind: each kind is done in a file of its own.
+// What a line asks of the desk, by kind.
 use crate::faults::Fault;
 use hall::Band;
 use hall::Key;

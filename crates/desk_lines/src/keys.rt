@@ -8,8 +8,8 @@ use hall::Key;
 use hall::Made;
 use hall::Reading;
 
-// How many readings a sensor has: a higher one would not fit its kind.
-const READINGS: u32 = 1024;
+// The highest number that a reading's kind has room for.
+const HIGHEST_WORD: u32 = 65535;
 
 // A key, or what is wrong and some key.
 pub struct KeyRead {
@@ -40,7 +40,7 @@ fn form_fault(part: NumberRead) -> Fault {
 }
 
 fn made(machine: u32, sensor: u32, reading: u32) -> KeyRead {
-    if READINGS <= reading {
+    if HIGHEST_WORD < reading {
         return wrong(Fault::NoSuchKey);
     }
     match Key::of(machine, sensor, Reading(reading as u16)) {

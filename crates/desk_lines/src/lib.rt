@@ -4,6 +4,7 @@ mod faults;
 mod keys;
 mod numbers;
 mod reading;
+mod slices;
 mod stretches;
 mod words;
 

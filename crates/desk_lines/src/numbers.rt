@@ -51,10 +51,10 @@ pub(crate) fn number_of(word: &[u8]) -> NumberRead {
         value = with_digit(value, byte - b'0');
         at += 1;
     }
-    told(value)
+    read_as(value)
 }
 
-fn told(value: u64) -> NumberRead {
+fn read_as(value: u64) -> NumberRead {
     if HIGHEST < value {
         return NumberRead {
             fault: Fault::NumberAbove,

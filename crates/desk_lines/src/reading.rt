@@ -4,12 +4,11 @@ use crate::commands::Command;
 use crate::commands::Lending;
 use crate::commands::Poking;
 use crate::commands::Question;
-use crate::commands::Slice;
 use crate::commands::Use;
-use crate::faults;
 use crate::faults::Fault;
 use crate::keys;
 use crate::numbers;
+use crate::slices;
 use crate::stretches;
 use crate::words;
 use hall::Band;
@@ -23,57 +22,7 @@ const COMMANDS: usize = 16;
 // The longest line, and how many bytes are to be kept of one: the longest line and a carriage return.
 const LONGEST_LINE: usize = 200;
 
-pub const LINE_STORE: usize = 201;
-
-// A slice's name, or what is wrong and some slice.
-pub struct SliceRead {
-    pub fault: Fault,
-    pub slice: Slice,
-}
-
-impl SliceRead {
-    // What is wrong with it, or else with what stands further right.
-    fn fault_or(self, right: Fault) -> Fault {
-        let fault = self.fault;
-        faults::leftmost(fault, right)
-    }
-}
-
-fn slice_of(word: &[u8]) -> SliceRead {
-    if words::is(word, b"bands") {
-        return SliceRead {
-            fault: Fault::None,
-            slice: Slice::Bands,
-        };
-    }
-    if words::is(word, b"nodes") {
-        return SliceRead {
-            fault: Fault::None,
-            slice: Slice::Nodes,
-        };
-    }
-    if words::is(word, b"marks") {
-        return SliceRead {
-            fault: Fault::None,
-            slice: Slice::Marks,
-        };
-    }
-    SliceRead {
-        fault: Fault::NotASlice,
-        slice: Slice::Bands,
-    }
-}
-
-fn slice_at(line: &[u8], place: usize) -> SliceRead {
-    let word = words::word(line, place);
-    if word.len() == 0 {
-        return SliceRead {
-            fault: Fault::WordMissing,
-            slice: Slice::Bands,
-        };
-    }
-    slice_of(word)
-}
+pub const LINE_STORE: usize = LONGEST_LINE + 1;
 
 // The command, if nothing is wrong with its words.
 fn unless(fault: Fault, command: Command) -> Command {
@@ -84,15 +33,25 @@ fn unless(fault: Fault, command: Command) -> Command {
     }
 }
 
+// Whether a line has a word more than so many.
+fn words_past(line: &[u8], count: usize) -> Fault {
+    let past = words::word(line, count);
+    if past.len() == 0 {
+        Fault::None
+    } else {
+        Fault::TooManyWords
+    }
+}
+
 // A command that takes no word.
 fn alone(line: &[u8], command: Command) -> Command {
-    unless(faults::words_past(line, 1), command)
+    unless(words_past(line, 1), command)
 }
 
 fn memory(line: &[u8]) -> Command {
     let nodes = numbers::number_at(line, 1);
     let marks = numbers::number_at(line, 2);
-    let fault = nodes.fault_or(marks.fault_or(faults::words_past(line, 3)));
+    let fault = nodes.fault_or(marks.fault_or(words_past(line, 3)));
     unless(
         fault,
         Command::Lend(Lending::Memory(nodes.number, marks.number)),
@@ -103,7 +62,7 @@ fn lengths(line: &[u8]) -> Command {
     let bands = numbers::number_at(line, 1);
     let nodes = numbers::number_at(line, 2);
     let marks = numbers::number_at(line, 3);
-    let after_bands = nodes.fault_or(marks.fault_or(faults::words_past(line, 4)));
+    let after_bands = nodes.fault_or(marks.fault_or(words_past(line, 4)));
     let fault = bands.fault_or(after_bands);
     let lending = Lending::Lengths(bands.number, nodes.number, marks.number);
     unless(fault, Command::Lend(lending))
@@ -111,15 +70,15 @@ fn lengths(line: &[u8]) -> Command {
 
 fn fill(line: &[u8]) -> Command {
     let word = numbers::number_at(line, 1);
-    let fault = word.fault_or(faults::words_past(line, 2));
+    let fault = word.fault_or(words_past(line, 2));
     unless(fault, Command::Use(Use::Words(Poking::Fill(word.number))))
 }
 
 fn poke(line: &[u8]) -> Command {
-    let slice_read = slice_at(line, 1);
+    let slice_read = slices::slice_at(line, 1);
     let index = numbers::number_at(line, 2);
     let word = numbers::number_at(line, 3);
-    let after_slice = index.fault_or(word.fault_or(faults::words_past(line, 4)));
+    let after_slice = index.fault_or(word.fault_or(words_past(line, 4)));
     let fault = slice_read.fault_or(after_slice);
     let slice = slice_read.slice;
     unless(
@@ -129,9 +88,9 @@ fn poke(line: &[u8]) -> Command {
 }
 
 fn peek(line: &[u8]) -> Command {
-    let slice_read = slice_at(line, 1);
+    let slice_read = slices::slice_at(line, 1);
     let index = numbers::number_at(line, 2);
-    let fault = slice_read.fault_or(index.fault_or(faults::words_past(line, 3)));
+    let fault = slice_read.fault_or(index.fault_or(words_past(line, 3)));
     let slice = slice_read.slice;
     unless(
         fault,
@@ -145,7 +104,7 @@ fn insert(line: &[u8]) -> Command {
     let stretch = stretches::stretch_at(line, 3);
     let low_level = numbers::number_at(line, 4);
     let high_level = numbers::number_at(line, 5);
-    let level_fault = low_level.fault_or(high_level.fault_or(faults::words_past(line, 6)));
+    let level_fault = low_level.fault_or(high_level.fault_or(words_past(line, 6)));
     let fault = number.fault_or(scope.fault_or(stretch.fault_or(level_fault)));
     let low = stretch.low;
     let high = stretch.high;
@@ -166,7 +125,7 @@ fn insert(line: &[u8]) -> Command {
 fn remove(line: &[u8]) -> Command {
     let number = numbers::number_at(line, 1);
     let scope = numbers::number_at(line, 2);
-    let fault = number.fault_or(scope.fault_or(faults::words_past(line, 3)));
+    let fault = number.fault_or(scope.fault_or(words_past(line, 3)));
     unless(
         fault,
         Command::Use(Use::Change(Change::Remove(number.number, scope.number))),
@@ -175,21 +134,21 @@ fn remove(line: &[u8]) -> Command {
 
 fn stab(line: &[u8]) -> Command {
     let read = keys::key_at(line, 1);
-    let fault = read.fault_or(faults::words_past(line, 2));
+    let fault = read.fault_or(words_past(line, 2));
     let key = read.key;
     unless(fault, Command::Use(Use::Ask(Question::Stab(key))))
 }
 
 fn band(line: &[u8]) -> Command {
     let number = numbers::number_at(line, 1);
-    let fault = number.fault_or(faults::words_past(line, 2));
+    let fault = number.fault_or(words_past(line, 2));
     unless(fault, Command::Use(Use::Ask(Question::Band(number.number))))
 }
 
 fn edge(line: &[u8]) -> Command {
     let read = keys::key_at(line, 1);
     let lane = numbers::number_at(line, 2);
-    let fault = read.fault_or(lane.fault_or(faults::words_past(line, 3)));
+    let fault = read.fault_or(lane.fault_or(words_past(line, 3)));
     let key = read.key;
     unless(
         fault,
@@ -199,7 +158,7 @@ fn edge(line: &[u8]) -> Command {
 
 fn node(line: &[u8]) -> Command {
     let read = keys::key_at(line, 1);
-    let fault = read.fault_or(faults::words_past(line, 2));
+    let fault = read.fault_or(words_past(line, 2));
     let key = read.key;
     unless(fault, Command::Use(Use::Ask(Question::Node(key))))
 }
@@ -263,7 +222,7 @@ fn length_without_return(line: &[u8], length: usize) -> usize {
     length
 }
 
-// The command that is said by so many bytes of what is kept of a line.
+// The command that a line of so many bytes says. Of a line longer than what is kept only its length counts: it is too long, carriage return or not.
 pub fn read_line(line: &[u8], length: usize) -> Command {
     let shorn = length_without_return(line, length);
     if LONGEST_LINE < shorn {

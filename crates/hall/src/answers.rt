@@ -33,7 +33,7 @@ pub enum Next {
 }
 
 impl Refusal {
-    // The line's number. No other code tells refusals apart: a new one is added here and where its number is stated.
+    // The line's number. Only this and the desk's words (`desk_answers`) tell refusals apart: a new one is added in both, and where its number is stated.
     pub fn number(self) -> u32
         ensures { λ r. ⌜ r ≡ refusalSays self ⌝ }
     {

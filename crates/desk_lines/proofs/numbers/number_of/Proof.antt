@@ -48,8 +48,8 @@ loop-less c = search needs
 loop-again : tie.Need-loop-again Inv-loop μ-loop
 loop-again c = search needs
 
-told-requires : tie.Need-told-requires Inv-loop μ-loop
-told-requires c κs = search needs
+read-as-requires : tie.Need-read-as-requires Inv-loop μ-loop
+read-as-requires c κs = search needs
 
 returns-4 : tie.Need-returns-4 Inv-loop μ-loop
 returns-4 c = search needs
@@ -72,5 +72,5 @@ number-of-spec =
     add-at
     loop-less
     loop-again
-    told-requires
+    read-as-requires
     returns-4)
