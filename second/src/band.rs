@@ -1,7 +1,7 @@
 //! A band and the keys it holds ("The hall line").
 
 use crate::hall::{is_key_of_machine, MACHINES};
-use std::collections::BTreeMap;
+use std::collections::{BTreeMap, BTreeSet};
 
 /// The scope of a house band; lower scopes are machines.
 pub const HOUSE: u32 = 64;
@@ -41,11 +41,6 @@ impl Band {
         (self.low..=self.high).any(|key| self.holds(key))
     }
 
-    /// Whether one of its written ends is at the key, open or closed.
-    pub fn ends_at(&self, key: u32) -> bool {
-        self.low == key || self.high == key
-    }
-
     /// Whether a machine's band has both written ends among that machine's keys;
     /// a house band may lie anywhere.
     pub fn is_within_scope(&self) -> bool {
@@ -53,6 +48,14 @@ impl Band {
         !is_a_machines
             || (is_key_of_machine(self.low, self.scope) && is_key_of_machine(self.high, self.scope))
     }
+}
+
+/// The keys that are an end of some band.
+pub fn all_ends(bands: &Bands) -> BTreeSet<u32> {
+    bands
+        .values()
+        .flat_map(|band| [band.low, band.high])
+        .collect()
 }
 
 #[cfg(test)]

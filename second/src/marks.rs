@@ -1,7 +1,8 @@
 //! Which bands are marked where ("Marks").
 
 use crate::band::{Band, Bands};
-use crate::lanes::{all_edges, Edge, Nodes};
+use crate::grounds::{grounds_of, Ground};
+use crate::lanes::{Edge, Nodes};
 use std::collections::BTreeSet;
 
 /// Where a mark can be.
@@ -45,6 +46,22 @@ impl Marks {
         self.0.len()
     }
 
+    /// Adds those of the bands that the rule marks on the ground.
+    fn extend<'a>(&mut self, ground: &Ground, bands: impl IntoIterator<Item = &'a Band>) {
+        let marked = bands.into_iter().filter(|band| ground.bears(band));
+        self.0.extend(marked.map(|band| Mark {
+            place: ground.place,
+            band: band.number,
+        }));
+    }
+
+    /// Takes every mark from the place.
+    fn clear(&mut self, place: Place) {
+        for band in self.at(place) {
+            self.0.remove(&Mark { place, band });
+        }
+    }
+
     /// How many of the marks in use are of one band.
     pub fn of_band(&self, number: u32) -> usize {
         self.0.iter().filter(|mark| mark.band == number).count()
@@ -56,61 +73,34 @@ pub fn lies_inside(edge: &Edge, band: &Band) -> bool {
     band.low <= edge.from && edge.to <= band.high
 }
 
-/// Whether the band is marked on the edge. `above` are the edges of lanes above
-/// that contain the edge: none of them may lie inside the band.
-fn is_marked_on_edge(band: &Band, edge: &Edge, above: &[Edge]) -> bool {
-    lies_inside(edge, band) && !above.iter().any(|wider| lies_inside(wider, band))
-}
-
-/// Whether the band is marked on the node at the key. `over` are the edges that
-/// pass strictly over the node: none of them may lie inside the band.
-fn is_marked_on_node(band: &Band, key: u32, over: &[Edge]) -> bool {
-    band.holds(key) && !over.iter().any(|passing| lies_inside(passing, band))
-}
-
-/// The edges of lanes above the edge's own that contain it.
-fn edges_above(edges: &[Edge], edge: &Edge) -> Vec<Edge> {
-    edges
-        .iter()
-        .filter(|other| other.lane > edge.lane && other.contains(edge))
-        .copied()
-        .collect()
-}
-
-/// The edges of any lane that pass strictly over the key.
-fn edges_over(edges: &[Edge], key: u32) -> Vec<Edge> {
-    edges
-        .iter()
-        .filter(|edge| edge.passes_strictly_over(key))
-        .copied()
-        .collect()
-}
-
 /// Every mark the rule gives these bands on these nodes, and no other.
 pub fn marks_by_the_rule(bands: &Bands, nodes: &Nodes) -> Marks {
-    let edges = all_edges(nodes);
-    let mut marks = BTreeSet::new();
-    for edge in &edges {
-        let above = edges_above(&edges, edge);
-        for band in bands.values() {
-            if is_marked_on_edge(band, edge, &above) {
-                marks.insert(Mark {
-                    place: Place::Edge(*edge),
-                    band: band.number,
-                });
-            }
-        }
+    let mut marks = Marks::default();
+    for ground in grounds_of(nodes) {
+        marks.extend(&ground, bands.values());
     }
-    for &key in nodes.keys() {
-        let over = edges_over(&edges, key);
-        for band in bands.values() {
-            if is_marked_on_node(band, key, &over) {
-                marks.insert(Mark {
-                    place: Place::Node(key),
-                    band: band.number,
-                });
-            }
-        }
+    marks
+}
+
+/// The marks the rule gives after a call that changed one band, from the marks and
+/// grounds before it. Where a ground stayed, no other band's mark can have changed,
+/// since the rule asks for nothing but the band and the ground.
+pub fn marks_after(
+    (marks_before, grounds_before): (&Marks, &BTreeSet<Ground>),
+    bands: &Bands,
+    grounds: &BTreeSet<Ground>,
+    changed_band: u32,
+) -> Marks {
+    let mut marks = marks_before.clone();
+    marks.0.retain(|mark| mark.band != changed_band);
+    for gone in grounds_before.difference(grounds) {
+        marks.clear(gone.place);
     }
-    Marks(marks)
+    for made in grounds.difference(grounds_before) {
+        marks.extend(made, bands.values());
+    }
+    for stayed in grounds.intersection(grounds_before) {
+        marks.extend(stayed, bands.get(&changed_band));
+    }
+    marks
 }

@@ -2,10 +2,11 @@
 
 use crate::band::{Band, Bands};
 use crate::flags::Flags;
-use crate::lanes::{is_level, next_of_lane, takes_part, Edge, Nodes};
-use crate::marks::{marks_by_the_rule, Marks, Place};
+use crate::lanes::{next_of_lane, takes_part, Edge, Nodes};
+use crate::marks::{Marks, Place};
 use crate::refusals::*;
 use crate::search::{looks, search};
+use crate::sound_profile::SoundProfile;
 
 /// A profile with the rooms of the memory it stands in. The fields are open, so
 /// that a profile which is not sound can be written down as well.
@@ -79,23 +80,18 @@ impl Profile {
 
     /// Makes a band live. A level counts only where the call makes the node.
     pub fn insert(&mut self, band: Band, low_level: u32, high_level: u32) -> Result<(), Refusal> {
-        self.judge_sizes()?;
-        self.judge_soundness()?;
-        judge_band(&band)?;
-        refuse_when(!is_level(low_level) || !is_level(high_level), WRONG_LEVEL)?;
-        refuse_when(self.bands.contains_key(&band.number), NUMBER_TAKEN)?;
-        self.change_to(self.with_band(band, low_level, high_level))
+        let mut sound = self.judge_soundness()?;
+        sound.insert(band, low_level, high_level)?;
+        *self = sound.into_profile();
+        Ok(())
     }
 
     /// Ends a live band of the given scope.
     pub fn remove(&mut self, number: u32, scope: u32) -> Result<(), Refusal> {
-        self.judge_sizes()?;
-        self.judge_soundness()?;
-        judge_scope(scope)?;
-        judge_number(number)?;
-        let band = self.live_band(number)?;
-        refuse_when(band.scope != scope, SCOPE_IS_ANOTHER)?;
-        self.change_to(self.without_band(number))
+        let mut sound = self.judge_soundness()?;
+        sound.remove(number, scope)?;
+        *self = sound.into_profile();
+        Ok(())
     }
 
     /// Which bands are found at a key.
@@ -117,7 +113,7 @@ impl Profile {
     pub fn band(&self, number: u32) -> Result<Band, Refusal> {
         self.judge_sizes()?;
         judge_number(number)?;
-        self.live_band(number)
+        self.bands.get(&number).copied().ok_or(NUMBER_NOT_LIVE)
     }
 
     /// Where a node's link in a lane leads, and what is marked there.
@@ -165,50 +161,13 @@ impl Profile {
         refuse_when(!self.sizes_are_right(), WRONG_SIZES_OR_NOT_SOUND)
     }
 
-    /// Rule 1, as far as only changes have it: they check first.
-    fn judge_soundness(&self) -> Result<(), Refusal> {
-        refuse_when(!self.check(), WRONG_SIZES_OR_NOT_SOUND)
-    }
-
-    /// The live band of a number, or rule 9.
-    fn live_band(&self, number: u32) -> Result<Band, Refusal> {
-        self.bands.get(&number).copied().ok_or(NUMBER_NOT_LIVE)
+    /// Rule 1 as changes have it: they check first, sizes and all else.
+    fn judge_soundness(&self) -> Result<SoundProfile, Refusal> {
+        SoundProfile::of(self.clone()).ok_or(WRONG_SIZES_OR_NOT_SOUND)
     }
 
     /// The level of the node at a key, or rule 13.
     fn level_at(&self, key: u32) -> Result<u32, Refusal> {
         self.nodes.get(&key).copied().ok_or(NO_SUCH_NODE_OR_LANE)
-    }
-
-    /// The state with the band live. A node that stands keeps its level, and the low
-    /// end goes first, so a one-key band takes the low end's level.
-    fn with_band(&self, band: Band, low_level: u32, high_level: u32) -> Profile {
-        let mut after = self.clone();
-        after.bands.insert(band.number, band);
-        after.nodes.entry(band.low).or_insert(low_level);
-        after.nodes.entry(band.high).or_insert(high_level);
-        after.marks = marks_by_the_rule(&after.bands, &after.nodes);
-        after
-    }
-
-    /// The state without the band: a node goes only when no live band ends there.
-    fn without_band(&self, number: u32) -> Profile {
-        let mut after = self.clone();
-        after.bands.remove(&number);
-        let bands = &after.bands;
-        after
-            .nodes
-            .retain(|&key, _| bands.values().any(|band| band.ends_at(key)));
-        after.marks = marks_by_the_rule(&after.bands, &after.nodes);
-        after
-    }
-
-    /// Takes the state after the call, unless rule 11 or 12 refuses it. Nothing but
-    /// that state is asked, and a refusal leaves everything as it was.
-    fn change_to(&mut self, after: Profile) -> Result<(), Refusal> {
-        refuse_when(!after.nodes_fit(), NODE_ROOM_EXCEEDED)?;
-        refuse_when(!after.marks_fit(), MARK_ROOM_EXCEEDED)?;
-        *self = after;
-        Ok(())
     }
 }

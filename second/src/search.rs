@@ -54,15 +54,16 @@ fn marks_taken_on_dropping(
 /// The nodes stepped onto, by definition: those below the key with no node of
 /// greater level between them and the key. A node at the key is not between.
 pub fn stepped_onto(nodes: &Nodes, key: u32) -> Vec<u32> {
-    nodes
-        .range(..key)
-        .filter(|(&below, &level)| {
-            !nodes
-                .range(below + 1..key)
-                .any(|(_, &between)| between > level)
-        })
-        .map(|(&below, _)| below)
-        .collect()
+    let mut stepped = Vec::new();
+    let mut tallest_between = 0;
+    for (&below, &level) in nodes.range(..key).rev() {
+        if tallest_between <= level {
+            stepped.push(below);
+        }
+        tallest_between = tallest_between.max(level);
+    }
+    stepped.reverse();
+    stepped
 }
 
 /// The looks reported: 8 plus the nodes stepped onto.
@@ -77,4 +78,32 @@ pub fn bands_holding(bands: &Bands, key: u32) -> Vec<u32> {
         .filter(|band| band.holds(key))
         .map(|band| band.number)
         .collect()
+}
+
+#[cfg(test)]
+mod tests {
+    use super::*;
+    use crate::dice::Dice;
+
+    /// The definition as the paper says it, every node tried against every other.
+    fn by_trying(nodes: &Nodes, key: u32) -> Vec<u32> {
+        let between = |below: u32| nodes.range(below + 1..key);
+        let is_stepped_onto =
+            |&(&below, &level): &(&u32, &u32)| !between(below).any(|(_, &other)| other > level);
+        let below = nodes.range(..key).filter(is_stepped_onto);
+        below.map(|(&below, _)| below).collect()
+    }
+
+    #[test]
+    fn nodes_stepped_onto_are_those_that_trying_finds() {
+        let mut dice = Dice::seeded(3);
+        for _ in 0..300 {
+            let nodes: Nodes = (0..dice.below(30))
+                .map(|_| (dice.below(60), 1 + dice.below(8)))
+                .collect();
+            for key in 0..=60 {
+                assert_eq!(stepped_onto(&nodes, key), by_trying(&nodes, key));
+            }
+        }
+    }
 }

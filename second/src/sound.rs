@@ -1,5 +1,6 @@
 //! When a profile is sound ("Sound memory").
 
+use crate::band::all_ends;
 use crate::lanes::is_level;
 use crate::marks::marks_by_the_rule;
 use crate::profile::Profile;
@@ -16,12 +17,19 @@ impl Profile {
     /// Whether the profile is sound. On wrong sizes it is not.
     pub fn check(&self) -> bool {
         self.sizes_are_right()
-            && self.bands_are_right()
-            && self.nodes_stand_exactly_at_ends()
-            && self.levels_are_right()
+            && self.stands()
             && self.marks == marks_by_the_rule(&self.bands, &self.nodes)
-            && self.nodes_fit()
-            && self.marks_fit()
+            && self.fits()
+    }
+
+    /// Whether bands, nodes and levels are by the rules, whatever is marked.
+    pub fn stands(&self) -> bool {
+        self.bands_are_right() && self.nodes_stand_exactly_at_ends() && self.levels_are_right()
+    }
+
+    /// Whether there is room for all.
+    pub fn fits(&self) -> bool {
+        self.nodes_fit() && self.marks_fit()
     }
 
     /// Whether both rooms are in range.
@@ -48,13 +56,8 @@ impl Profile {
 
     /// Whether a node stands at each end of a live band and nowhere else.
     fn nodes_stand_exactly_at_ends(&self) -> bool {
-        let ends: BTreeSet<u32> = self
-            .bands
-            .values()
-            .flat_map(|band| [band.low, band.high])
-            .collect();
         let standing: BTreeSet<u32> = self.nodes.keys().copied().collect();
-        standing == ends
+        standing == all_ends(&self.bands)
     }
 
     /// Whether each node's level is 1 to 8.

@@ -88,7 +88,7 @@ fn flushed(desk: Desk, output: &[u8]) -> Desk {
     }
 }
 
-// The desk at its start: the largest memory, made empty. The answer to that is not kept.
+// The desk at its start: the largest memory that the box takes, made empty. The answer to that is not kept.
 fn begin(bands: &mut [u32], nodes: &mut [u32], marks: &mut [u32], output: &mut [u8]) -> Desk {
     let lent = lending::at_start();
     doing::lend_for(

@@ -8,40 +8,39 @@ fn put_words(output: &mut [u8], written: usize, refusal: Refusal) -> usize {
         Refusal::MemoryUnfit => put(
             output,
             written,
-            b" sizes are out of range, or memory is not sound\n",
+            b"sizes are out of range, or memory is not sound",
         ),
-        Refusal::ScopeAbove => put(output, written, b" scope above 64\n"),
-        Refusal::NumberAbove => put(output, written, b" band number above 1023\n"),
-        Refusal::KeyAbove => put(output, written, b" key above 2097151\n"),
-        Refusal::HoldsNoKey => put(output, written, b" band holds no whole key\n"),
-        Refusal::EndElsewhere => put(
-            output,
-            written,
-            b" an end is not among the machine's keys\n",
-        ),
-        Refusal::LevelWrong => put(output, written, b" level not 1 to 8\n"),
-        Refusal::NumberLive => put(output, written, b" number is live\n"),
-        Refusal::NumberNotLive => put(output, written, b" number is not live\n"),
-        Refusal::ScopeOther => put(output, written, b" the band's scope is another\n"),
+        Refusal::ScopeAbove => put(output, written, b"scope above 64"),
+        Refusal::NumberAbove => put(output, written, b"band number above 1023"),
+        Refusal::KeyAbove => put(output, written, b"key above 2097151"),
+        Refusal::HoldsNoKey => put(output, written, b"band holds no whole key"),
+        Refusal::EndElsewhere => put(output, written, b"an end is not among the machine's keys"),
+        Refusal::LevelWrong => put(output, written, b"level not 1 to 8"),
+        Refusal::NumberLive => put(output, written, b"number is live"),
+        Refusal::NumberNotLive => put(output, written, b"number is not live"),
+        Refusal::ScopeOther => put(output, written, b"the band's scope is another"),
         Refusal::NodesExceed => put(
             output,
             written,
-            b" nodes after the call would exceed the node room\n",
+            b"nodes after the call would exceed the node room",
         ),
         Refusal::MarksExceed => put(
             output,
             written,
-            b" marks after the call would exceed the mark room\n",
+            b"marks after the call would exceed the mark room",
         ),
         Refusal::NoNodeOrLane => put(
             output,
             written,
-            b" no node at the key, or it has no such lane\n",
+            b"no node at the key, or it has no such lane",
         ),
     }
 }
 
+// The number, and the words behind it.
 pub(crate) fn tell(output: &mut [u8], written: usize, refusal: Refusal) -> usize {
-    let told = writing::put_number(output, written, refusal.number());
-    put_words(output, told, refusal)
+    let numbered = writing::put_number(output, written, refusal.number());
+    let spaced = put(output, numbered, b" ");
+    let told = put_words(output, spaced, refusal);
+    put(output, told, b"\n")
 }

@@ -33,7 +33,7 @@ fn unless(fault: Fault, command: Command) -> Command {
     }
 }
 
-// Whether a line has a word more than so many.
+// What is wrong where a line has a word more than so many.
 fn words_past(line: &[u8], count: usize) -> Fault {
     let past = words::word(line, count);
     if past.len() == 0 {

@@ -112,7 +112,8 @@ pub fn live(ground: &Ground, seed: u64, parts: &Parts, tally: &mut Tally) -> Res
     Ok(())
 }
 
-fn draw_call(dice: &mut Dice, ground: &Ground, profile: &Profile) -> Call {
+/// A call as the ground has it, at times spoiled.
+pub fn draw_call(dice: &mut Dice, ground: &Ground, profile: &Profile) -> Call {
     let call = if dice.below(5) < 3 {
         draw_insert(dice, ground)
     } else {

@@ -5,13 +5,18 @@ mod bench_card;
 mod bench_profile;
 mod compare;
 mod errors_that_look_right;
+mod foreseeing;
 mod levels;
 mod life;
+mod likeness;
 mod lives;
+mod memory_words;
 mod mistakes;
 mod reach;
 mod refusals;
+mod sound_profile;
 mod soundness;
+mod spelling;
 
 use crate::band::{Band, HOUSE};
 use crate::profile::Profile;
