@@ -87,6 +87,11 @@ fn a_change_that_reaches_another_machine_is_found() {
 }
 
 #[test]
+fn a_stab_by_the_list_of_bands_is_found() {
+    bites("worked-out-from-the-list", 4, "stab", "0 count ");
+}
+
+#[test]
 fn a_closed_end_read_out_open_is_found() {
     bites("closed-end-read-open", 2, "band", "0 scope ");
 }

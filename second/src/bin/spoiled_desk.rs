@@ -7,7 +7,7 @@
 #![forbid(unsafe_code)]
 #![warn(missing_docs)]
 
-use std::collections::BTreeMap;
+use std::collections::{BTreeMap, BTreeSet};
 use std::io::{BufRead, BufReader, Write};
 use std::process::{ChildStdin, ChildStdout, Command, ExitCode, Stdio};
 use std::sync::mpsc::{channel, Receiver, Sender};
@@ -25,6 +25,7 @@ const ERRORS: &[(&str, Spoil)] = &[
     ("looks-one-too-many", looks_one_too_many),
     ("met-one-too-many", met_one_too_many),
     ("machine-13-forgets", machine_13_forgets),
+    ("worked-out-from-the-list", worked_out_from_the_list),
     ("closed-end-read-open", closed_end_read_open),
     ("later-level-read", later_level_read),
     ("next-none-as-zero", next_none_as_zero),
@@ -61,6 +62,8 @@ struct Seen {
     removed: bool,
     /// The open high ends of the bands that were made live, by number.
     open_ends: BTreeMap<u32, u32>,
+    /// The numbers whose place on the list of bands was poked to say that it is free.
+    poked_free: BTreeSet<u32>,
     /// The level that was given last for each key.
     levels: BTreeMap<u32, u32>,
     /// Answers that are not written before the end.
@@ -202,8 +205,23 @@ impl Seen {
             "empty" => {
                 self.open_ends.clear();
                 self.levels.clear();
+                self.poked_free.clear();
             }
+            "poke" => self.see_poke(asked),
             _ => {}
+        }
+    }
+
+    /// The first word of a band's place says whether the number is live.
+    fn see_poke(&mut self, asked: &Asked) {
+        let (Some(index), Some(word)) = (asked.number(2), asked.number(3)) else {
+            return;
+        };
+        if asked.word(1) == "bands" && index % 8 == 0 {
+            self.poked_free.remove(&(index / 8));
+            if word == 0 {
+                self.poked_free.insert(index / 8);
+            }
         }
     }
 
@@ -327,6 +345,15 @@ fn machine_13_forgets(asked: &Asked, answer: String, seen: &mut Seen) -> Option<
             stab.met -= 1;
             stab.bands.remove(0);
         }
+    })
+}
+
+/// A stab goes by the list of bands, and not by the marks.
+fn worked_out_from_the_list(asked: &Asked, answer: String, seen: &mut Seen) -> Option<String> {
+    altered_stab(asked, answer, |stab| {
+        stab.bands.retain(|band| !seen.poked_free.contains(band));
+        stab.count = stab.bands.len() as u32;
+        stab.met = stab.count;
     })
 }
 

@@ -166,7 +166,7 @@ fn kind_of<'a>(command: &Command, first: &'a str, after: &Foreseer) -> &'a str {
         }
         (Command::Edge { key, .. }, "13") => {
             let stands = after
-                .profile()
+                .marked()
                 .is_some_and(|profile| profile.nodes.contains_key(key));
             if stands {
                 NO_LANE

@@ -168,7 +168,7 @@ const NO_STRETCHES: [&[u8]; 32] = [
 type Wrong = (&'static [u8], &'static str);
 
 /// Brackets and a comma are there, and a key is wrong; if both are, the low end is told.
-const STRETCHES_OF_WRONG_KEYS: [Wrong; 36] = [
+const STRETCHES_OF_WRONG_KEYS: [Wrong; 37] = [
     (b"[,]", NOT_A_KEY),
     (b"(,)", NOT_A_KEY),
     (b"[,,]", NOT_A_KEY),
@@ -196,6 +196,7 @@ const STRETCHES_OF_WRONG_KEYS: [Wrong; 36] = [
     (b"(0:0:1024,63:31:1023)", NO_SUCH_KEY),
     (b"[64:0:0,0:32:0)", NO_SUCH_KEY),
     (b"[64:0:0,x]", NO_SUCH_KEY),
+    (b"[64:0:0,1,2]", NO_SUCH_KEY),
     (b"[64:0:0,4294967296]", NO_SUCH_KEY),
     (b"[4294967296:0:0,x]", NO_SUCH_KEY),
     (b"(100,0:0:18446744073709551617)", NO_SUCH_KEY),
