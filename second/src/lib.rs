@@ -16,7 +16,6 @@ pub mod desk;
 pub mod dice;
 pub mod drive;
 pub mod flags;
-pub mod grounds;
 pub mod hall;
 pub mod lanes;
 pub mod likeness;
@@ -28,6 +27,7 @@ pub mod refusals;
 pub mod search;
 pub mod sound;
 pub mod sound_profile;
+pub mod spots;
 pub mod telling;
 pub mod words;
 

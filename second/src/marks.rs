@@ -1,8 +1,8 @@
 //! Which bands are marked where ("Marks").
 
 use crate::band::{Band, Bands};
-use crate::grounds::{grounds_of, Ground};
 use crate::lanes::{Edge, Nodes};
+use crate::spots::{spots_of, Spot};
 use std::collections::BTreeSet;
 
 /// Where a mark can be.
@@ -46,11 +46,11 @@ impl Marks {
         self.0.len()
     }
 
-    /// Adds those of the bands that the rule marks on the ground.
-    fn extend<'a>(&mut self, ground: &Ground, bands: impl IntoIterator<Item = &'a Band>) {
-        let marked = bands.into_iter().filter(|band| ground.bears(band));
+    /// Adds those of the bands that the rule marks on the spot.
+    fn extend<'a>(&mut self, spot: &Spot, bands: impl IntoIterator<Item = &'a Band>) {
+        let marked = bands.into_iter().filter(|band| spot.bears(band));
         self.0.extend(marked.map(|band| Mark {
-            place: ground.place,
+            place: spot.place,
             band: band.number,
         }));
     }
@@ -76,30 +76,30 @@ pub fn lies_inside(edge: &Edge, band: &Band) -> bool {
 /// Every mark the rule gives these bands on these nodes, and no other.
 pub fn marks_by_the_rule(bands: &Bands, nodes: &Nodes) -> Marks {
     let mut marks = Marks::default();
-    for ground in grounds_of(nodes) {
-        marks.extend(&ground, bands.values());
+    for spot in spots_of(nodes) {
+        marks.extend(&spot, bands.values());
     }
     marks
 }
 
 /// The marks the rule gives after a call that changed one band, from the marks and
-/// grounds before it. Where a ground stayed, no other band's mark can have changed,
-/// since the rule asks for nothing but the band and the ground.
+/// spots before it. Where a spot stayed, no other band's mark can have changed,
+/// since the rule asks for nothing but the band and the spot.
 pub fn marks_after(
-    (marks_before, grounds_before): (&Marks, &BTreeSet<Ground>),
+    (marks_before, spots_before): (&Marks, &BTreeSet<Spot>),
     bands: &Bands,
-    grounds: &BTreeSet<Ground>,
+    spots: &BTreeSet<Spot>,
     changed_band: u32,
 ) -> Marks {
     let mut marks = marks_before.clone();
     marks.0.retain(|mark| mark.band != changed_band);
-    for gone in grounds_before.difference(grounds) {
+    for gone in spots_before.difference(spots) {
         marks.clear(gone.place);
     }
-    for made in grounds.difference(grounds_before) {
+    for made in spots.difference(spots_before) {
         marks.extend(made, bands.values());
     }
-    for stayed in grounds.intersection(grounds_before) {
+    for stayed in spots.intersection(spots_before) {
         marks.extend(stayed, bands.get(&changed_band));
     }
     marks

@@ -1,21 +1,21 @@
 //! A profile that is known to be sound, and how calls change it.
 //!
 //! Calls leave a sound profile sound, so a long life pays for the check once, and for
-//! the grounds of its nodes once a change.
+//! the spots of its nodes once a change.
 
 use crate::band::{all_ends, Band};
-use crate::grounds::{grounds_of, Ground};
 use crate::lanes::is_level;
 use crate::marks::marks_after;
 use crate::profile::Profile;
 use crate::refusals::*;
+use crate::spots::{spots_of, Spot};
 use std::collections::BTreeSet;
 
-/// A sound profile and the grounds of its nodes.
+/// A sound profile and the spots of its nodes.
 #[derive(Clone, Debug, PartialEq, Eq)]
 pub struct SoundProfile {
     profile: Profile,
-    grounds: BTreeSet<Ground>,
+    spots: BTreeSet<Spot>,
 }
 
 impl SoundProfile {
@@ -27,7 +27,7 @@ impl SoundProfile {
     /// A profile of which it is known already that it is sound, such as an empty one.
     pub fn known(profile: Profile) -> SoundProfile {
         SoundProfile {
-            grounds: grounds_of(&profile.nodes),
+            spots: spots_of(&profile.nodes),
             profile,
         }
     }
@@ -81,12 +81,12 @@ impl SoundProfile {
 
     /// The bands and nodes after a call that changed this band, marked by the rule.
     fn marked_after(&self, mut after: Profile, changed_band: u32) -> SoundProfile {
-        let grounds = grounds_of(&after.nodes);
-        let before = (&self.profile.marks, &self.grounds);
-        after.marks = marks_after(before, &after.bands, &grounds, changed_band);
+        let spots = spots_of(&after.nodes);
+        let before = (&self.profile.marks, &self.spots);
+        after.marks = marks_after(before, &after.bands, &spots, changed_band);
         SoundProfile {
             profile: after,
-            grounds,
+            spots,
         }
     }
 

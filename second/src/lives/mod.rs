@@ -2,7 +2,7 @@
 
 mod asking;
 mod console;
-mod drawing;
+pub(crate) mod drawing;
 mod few_keys;
 mod few_marks;
 mod full;
@@ -15,7 +15,7 @@ mod spoiled_words;
 mod spoiling;
 mod unsound;
 mod writing;
-mod wrong_arguments;
+pub(crate) mod wrong_arguments;
 mod wrong_lengths;
 
 #[cfg(test)]

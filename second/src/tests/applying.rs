@@ -3,16 +3,16 @@
 //! The model stops at its first refusal. Here every row of the table under "When
 //! the box says no" is asked, and the lowest that applies must be the model's.
 
-use super::life::Call;
 use super::*;
 use crate::band::Bands;
+use crate::desk::command::Command;
 use crate::lanes::Nodes;
 use crate::marks::marks_by_the_rule;
 use crate::refusals::Refusal;
 use std::collections::BTreeSet;
 
 /// The refusal the table gives, none when the call is to be accepted.
-pub fn lowest_that_applies(before: &Profile, call: &Call) -> Option<Refusal> {
+pub fn lowest_that_applies(before: &Profile, call: &Command) -> Option<Refusal> {
     rows(before, call)
         .into_iter()
         .filter(|(_, applies)| *applies)
@@ -20,14 +20,15 @@ pub fn lowest_that_applies(before: &Profile, call: &Call) -> Option<Refusal> {
         .min()
 }
 
-fn rows(before: &Profile, call: &Call) -> Vec<(Refusal, bool)> {
+fn rows(before: &Profile, call: &Command) -> Vec<(Refusal, bool)> {
     match *call {
-        Call::Insert {
+        Command::Insert {
             band,
             low_level,
             high_level,
         } => insert_rows(before, band, low_level, high_level),
-        Call::Remove { number, scope } => remove_rows(before, number, scope),
+        Command::Remove { number, scope } => remove_rows(before, number, scope),
+        other => unreachable!("{other:?} changes no band"),
     }
 }
 

@@ -1,9 +1,10 @@
 //! What is compared after each call of a life.
 
 use super::applying::lowest_that_applies;
-use super::life::Call;
+use super::life::{ask, level_given, number_and_scope};
 use super::*;
 use crate::band::Bands;
+use crate::desk::command::Command;
 use crate::flags::Flags;
 use crate::lanes::{all_edges, Nodes, LANES};
 use crate::marks::{lies_inside, marks_by_the_rule, Marks, Place};
@@ -16,7 +17,7 @@ use crate::telling::telling_keys;
 /// the place of a right one must be noticed.
 pub struct Parts {
     /// Makes a call.
-    pub ask: fn(&Call, &mut Profile) -> Result<(), Refusal>,
+    pub ask: fn(&Command, &mut Profile) -> Result<(), Refusal>,
     /// The marks of bands on nodes.
     pub marks: fn(&Bands, &Nodes) -> Marks,
     /// The search by lanes.
@@ -31,7 +32,7 @@ impl Parts {
     /// The model's own parts.
     pub fn right() -> Parts {
         Parts {
-            ask: Call::ask,
+            ask,
             marks: marks_by_the_rule,
             search,
             stepped_onto,
@@ -52,7 +53,7 @@ fn same<T: PartialEq + std::fmt::Debug>(what: &str, one: T, other: T) -> Result<
 /// All there is to compare once a call is answered.
 pub fn compare_call(
     before: &Profile,
-    call: &Call,
+    call: &Command,
     answer: Result<(), Refusal>,
     after: &Profile,
     parts: &Parts,
@@ -73,20 +74,21 @@ pub fn compare_call(
 }
 
 /// The call's band is live as given, or has ended; no other band changes.
-fn compare_bands(before: &Profile, call: &Call, after: &Profile) -> Result<(), String> {
+fn compare_bands(before: &Profile, call: &Command, after: &Profile) -> Result<(), String> {
+    let (number, _) = number_and_scope(call);
     let mut expected = before.bands.clone();
     match *call {
-        Call::Insert { band, .. } => expected.insert(band.number, band),
-        Call::Remove { number, .. } => expected.remove(&number),
+        Command::Insert { band, .. } => expected.insert(number, band),
+        _ => expected.remove(&number),
     };
     same("live bands", &after.bands, &expected)
 }
 
 /// Nodes that stood keep their level; a new one has the level given for its end.
-fn compare_levels(before: &Profile, call: &Call, after: &Profile) -> Result<(), String> {
+fn compare_levels(before: &Profile, call: &Command, after: &Profile) -> Result<(), String> {
     for (&key, &level) in &after.nodes {
         let stood = before.nodes.get(&key).copied();
-        let expected = stood.or_else(|| call.level_given(key));
+        let expected = stood.or_else(|| level_given(call, key));
         same("level", Some(level), expected)?;
     }
     Ok(())
@@ -95,17 +97,18 @@ fn compare_levels(before: &Profile, call: &Call, after: &Profile) -> Result<(), 
 /// Both rules of "What one call can reach".
 fn compare_reach(
     before: &Profile,
-    call: &Call,
+    call: &Command,
     after: &Profile,
     parts: &Parts,
 ) -> Result<(), String> {
     let reach = (parts.stretches)(&before.nodes, &after.nodes);
-    let changed = marks_changed_out_of_reach(before, after, &reach, call.number());
+    let (number, scope) = number_and_scope(call);
+    let changed = marks_changed_out_of_reach(before, after, &reach, number);
     same("marks changed out of reach", changed, vec![])?;
-    if call.scope() == HOUSE {
+    if scope == HOUSE {
         return Ok(());
     }
-    let changed = keys_changed_at_other_machines(before, after, call.scope());
+    let changed = keys_changed_at_other_machines(before, after, scope);
     same("keys changed at other machines", changed, vec![])
 }
 

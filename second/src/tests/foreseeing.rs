@@ -1,6 +1,6 @@
 //! What is foreseen of a desk (`docs/DESK.md`).
 
-use super::life::{draw_call, Call, Ground};
+use super::life::draw_call;
 use super::lives::{few_keys, several_machines};
 use super::*;
 use crate::desk::command::{Command, Slice};
@@ -9,6 +9,7 @@ use crate::desk::foreseen::Foreseen;
 use crate::desk::script::Line;
 use crate::dice::Dice;
 use crate::hall::HIGHEST_KEY;
+use crate::lives::drawing::Ground;
 use crate::words::{laid, Words};
 
 const SOUND: &str = "yes";
@@ -486,20 +487,9 @@ fn draw_command(dice: &mut Dice, ground: &Ground, desk: &Foreseer) -> Command {
         10 => Command::Room,
         11 => Command::Node { key },
         _ => match desk.profile() {
-            Some(profile) => draw_change(dice, ground, profile),
+            Some(profile) => draw_call(dice, ground, profile),
             None => Command::Empty,
         },
-    }
-}
-
-fn draw_change(dice: &mut Dice, ground: &Ground, profile: &Profile) -> Command {
-    match draw_call(dice, ground, profile) {
-        Call::Insert {
-            band,
-            low_level,
-            high_level,
-        } => insert((band, low_level, high_level)),
-        Call::Remove { number, scope } => Command::Remove { number, scope },
     }
 }
 
@@ -517,11 +507,11 @@ fn read_anew(desk: &Foreseer) -> Foreseer {
 fn keeping_the_profile_beside_the_words_changes_no_answer() {
     let mut dice = Dice::seeded(77);
     let mut changes = 0;
-    for ground in [few_keys(), several_machines()] {
+    for setting in [few_keys(), several_machines()] {
         let mut kept = Foreseer::new();
         let mut anew = kept.clone();
         for nth in 0..600 {
-            let command = draw_command(&mut dice, &ground, &kept);
+            let command = draw_command(&mut dice, &setting.ground, &kept);
             anew = read_anew(&anew);
             let foreseen = kept.foresee_command(&command);
             assert_eq!(

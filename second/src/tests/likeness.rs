@@ -46,14 +46,14 @@ fn the_bench_profile_is_told_by_its_node_and_mark_words_but_for_the_scopes() {
 #[test]
 fn every_state_of_many_lives_is_told_so_and_answers_alike() {
     let mut with_bands = 0;
-    for ground in [
+    for setting in [
         few_keys(),
         several_machines(),
         few_marks(),
         both_ends_of_the_line(),
     ] {
         for seed in 0..4 {
-            for profile in states(&ground, seed).into_iter().step_by(2) {
+            for profile in states(&setting, seed).into_iter().step_by(2) {
                 let alike = with_band_words(&profile, 9).alike();
                 let alike = alike.expect("a profile that is marked alike");
                 assert_eq!(alike, with_house_bands(&profile));

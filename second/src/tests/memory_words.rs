@@ -1,6 +1,6 @@
 //! The words of a profile's memory, laid and read back (`docs/MEMORY.md`).
 
-use super::life::{draw_call, Ground};
+use super::life::{ask, draw_call, Setting};
 use super::lives::{both_ends_of_the_line, few_keys, few_marks, several_machines};
 use super::*;
 use crate::dice::Dice;
@@ -9,15 +9,13 @@ use crate::lanes::LANES;
 use crate::words::{laid, node_words, rooms_of_lengths, Words};
 
 /// The states of a life, one after each call.
-pub fn states(ground: &Ground, seed: u64) -> Vec<Profile> {
+pub fn states(setting: &Setting, seed: u64) -> Vec<Profile> {
     let mut dice = Dice::seeded(seed);
-    let node_room = 1 + dice.below(ground.node_room);
-    let mark_room = 1 + dice.below(ground.mark_room);
-    let mut profile = Profile::empty(node_room, mark_room).expect("right sizes");
+    let mut profile = setting.beginning(&mut dice);
     let mut states = Vec::new();
-    for _ in 0..ground.calls {
-        let call = draw_call(&mut dice, ground, &profile);
-        let _ = call.ask(&mut profile);
+    for _ in 0..setting.calls {
+        let call = draw_call(&mut dice, &setting.ground, &profile);
+        let _ = ask(&call, &mut profile);
         states.push(profile.clone());
     }
     states
@@ -126,14 +124,14 @@ fn assert_read_by_places(profile: &Profile) {
 
 #[test]
 fn the_words_of_a_life_say_its_profile_and_are_read_back() {
-    let grounds = [
+    let settings = [
         few_keys(),
         few_marks(),
         both_ends_of_the_line(),
         several_machines(),
     ];
-    for (seed, ground) in (900..).zip(grounds) {
-        for profile in states(&ground, seed) {
+    for (seed, setting) in (900..).zip(settings) {
+        for profile in states(&setting, seed) {
             assert_read_by_places(&profile);
             let words = laid(&profile);
             assert_eq!(words.rooms(), Some((profile.node_room, profile.mark_room)));

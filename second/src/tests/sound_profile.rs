@@ -1,9 +1,11 @@
 //! A life of a profile that is known to be sound, against the same life checked anew.
 
-use super::life::{draw_call, Call};
+use super::life::{ask, draw_call};
 use super::lives::{few_keys, few_marks, several_machines};
 use super::*;
+use crate::desk::command::Command;
 use crate::dice::Dice;
+use crate::lives::drawing::tossed_level;
 use crate::sound_profile::SoundProfile;
 
 #[test]
@@ -17,20 +19,21 @@ fn only_a_sound_profile_is_taken() {
 #[test]
 fn a_long_life_answers_and_stands_as_one_that_is_checked_before_every_call() {
     let mut dice = Dice::seeded(31);
-    for ground in [few_keys(), few_marks(), several_machines()] {
-        let mut checked = Profile::empty(ground.node_room, ground.mark_room).unwrap();
+    for setting in [few_keys(), few_marks(), several_machines()] {
+        let mut checked = Profile::empty(setting.node_room, setting.mark_room).unwrap();
         let mut known = SoundProfile::known(checked.clone());
         for _ in 0..300 {
-            let call = draw_call(&mut dice, &ground, &checked);
+            let call = draw_call(&mut dice, &setting.ground, &checked);
             let answer = match call {
-                Call::Insert {
+                Command::Insert {
                     band,
                     low_level,
                     high_level,
                 } => known.insert(band, low_level, high_level),
-                Call::Remove { number, scope } => known.remove(number, scope),
+                Command::Remove { number, scope } => known.remove(number, scope),
+                other => unreachable!("{other:?} changes no band"),
             };
-            assert_eq!(answer, call.ask(&mut checked), "{call:?}");
+            assert_eq!(answer, ask(&call, &mut checked), "{call:?}");
             assert_eq!(Some(&known), SoundProfile::of(checked.clone()).as_ref());
         }
     }
@@ -47,7 +50,7 @@ fn a_wide_profile_is_sound_after_many_calls_without_a_check() {
             high: low + 1 + dice.below(90_000),
             ..house(number, "[0,0]")
         };
-        let mut level = || 1 + dice.roll().trailing_zeros().min(7);
+        let mut level = || tossed_level(&mut dice);
         assert_eq!(known.insert(given, level(), level()), Ok(()));
     }
     assert!(known.profile().check());

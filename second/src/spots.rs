@@ -12,7 +12,7 @@ use std::collections::BTreeSet;
 /// A place, and the edges that cover it: where one of them lies inside a band, the band
 /// is not marked at the place.
 #[derive(Clone, Debug, PartialEq, Eq, PartialOrd, Ord)]
-pub struct Ground {
+pub struct Spot {
     /// Where a band can be marked.
     pub place: Place,
     /// For an edge, those of lanes above that contain it; for a node, those of any lane
@@ -20,7 +20,7 @@ pub struct Ground {
     pub covers: Vec<Edge>,
 }
 
-impl Ground {
+impl Spot {
     /// Whether the rule marks the band here.
     pub fn bears(&self, band: &Band) -> bool {
         let is_reached = match &self.place {
@@ -31,14 +31,14 @@ impl Ground {
     }
 }
 
-/// The ground of every edge and of every node.
-pub fn grounds_of(nodes: &Nodes) -> BTreeSet<Ground> {
+/// The spot of every edge and of every node.
+pub fn spots_of(nodes: &Nodes) -> BTreeSet<Spot> {
     let lanes: Vec<Vec<Edge>> = (0..LANES).map(|lane| edges_of_lane(nodes, lane)).collect();
-    let of_edges = lanes.iter().flatten().map(|edge| Ground {
+    let of_edges = lanes.iter().flatten().map(|edge| Spot {
         place: Place::Edge(*edge),
         covers: edges_above(&lanes, edge),
     });
-    let of_nodes = nodes.keys().map(|&key| Ground {
+    let of_nodes = nodes.keys().map(|&key| Spot {
         place: Place::Node(key),
         covers: edges_over(&lanes, key),
     });
@@ -100,11 +100,11 @@ mod tests {
         let mut dice = Dice::seeded(11);
         for _ in 0..200 {
             let nodes = thrown_nodes(&mut dice);
-            let grounds = grounds_of(&nodes);
-            assert_eq!(grounds.len(), nodes.len() + all_edges(&nodes).len());
-            for ground in grounds {
-                let tried = covers_by_trying(&nodes, &ground.place);
-                assert_eq!(ground.covers, tried, "{:?} on {nodes:?}", ground.place);
+            let spots = spots_of(&nodes);
+            assert_eq!(spots.len(), nodes.len() + all_edges(&nodes).len());
+            for spot in spots {
+                let tried = covers_by_trying(&nodes, &spot.place);
+                assert_eq!(spot.covers, tried, "{:?} on {nodes:?}", spot.place);
             }
         }
     }
@@ -112,6 +112,6 @@ mod tests {
     #[test]
     fn the_last_key_can_be_a_node() {
         let nodes = Nodes::from([(u32::MAX - 1, 2), (u32::MAX, 2)]);
-        assert_eq!(grounds_of(&nodes).len(), 4);
+        assert_eq!(spots_of(&nodes).len(), 4);
     }
 }
