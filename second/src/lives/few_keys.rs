@@ -2,7 +2,7 @@
 
 use super::drawing::{telling_numbers, Ground};
 use super::writing::Writer;
-use super::wrong_arguments::spoiled;
+use super::wrong_arguments::spoiled_once_in;
 use super::Kind;
 use crate::band::HOUSE;
 use crate::desk::script::Script;
@@ -39,11 +39,7 @@ fn live(writer: &mut Writer, ground: &Ground, nodes: u32, marks: u32) {
     for _ in 0..CHANGES {
         let change = writer.drawn(|dice, profile| {
             let change = ground.change(dice, profile);
-            if dice.one_in(5) {
-                spoiled(dice, change)
-            } else {
-                change
-            }
+            spoiled_once_in(5, dice, change)
         });
         writer.change(change, &ground.numbers);
     }

@@ -2,13 +2,14 @@
 
 use super::drawing::{shuffle, Ground};
 use super::writing::{is_done, Writer};
-use super::wrong_arguments::spoiled;
+use super::wrong_arguments::spoiled_once_in;
 use super::Kind;
 use crate::band::HOUSE;
 use crate::desk::command::Command;
 use crate::desk::script::Script;
 use crate::dice::Dice;
 use crate::hall::{first_key, last_key, MACHINES};
+use crate::profile::Profile;
 use crate::telling::{machine_borders, telling_keys};
 
 /// Many machines.
@@ -43,17 +44,13 @@ fn make(seed: u64) -> Script {
 }
 
 /// Mostly inserts, so that many bands stand.
-fn draw(dice: &mut Dice, ground: &Ground, profile: Option<&crate::profile::Profile>) -> Command {
+fn draw(dice: &mut Dice, ground: &Ground, profile: Option<&Profile>) -> Command {
     let change = if dice.one_in(4) {
         ground.remove(dice, profile)
     } else {
         ground.insert(dice, profile)
     };
-    if dice.one_in(12) {
-        spoiled(dice, change)
-    } else {
-        change
-    }
+    spoiled_once_in(12, dice, change)
 }
 
 /// The keys at and near both borders of many machines, and house bands between any.

@@ -29,6 +29,15 @@ pub fn spoiled(dice: &mut Dice, call: Command) -> Command {
     spoiled
 }
 
+/// The call as it is, and once in so many times spoiled.
+pub fn spoiled_once_in(times: u32, dice: &mut Dice, call: Command) -> Command {
+    if dice.one_in(times) {
+        spoiled(dice, call)
+    } else {
+        call
+    }
+}
+
 fn spoiled_once(dice: &mut Dice, call: Command) -> Command {
     match call {
         Command::Insert {

@@ -6,7 +6,7 @@ use crate::desk::command::Command;
 use crate::desk::spelling::name;
 use crate::dice::Dice;
 use crate::lives::drawing::Ground;
-use crate::lives::wrong_arguments::spoiled;
+use crate::lives::wrong_arguments::spoiled_once_in;
 use crate::refusals::Refusal;
 use std::collections::BTreeMap;
 
@@ -90,9 +90,5 @@ pub fn live(setting: &Setting, seed: u64, parts: &Parts, tally: &mut Tally) -> R
 /// An insert or a remove as the ground has it, at times spoiled.
 pub fn draw_call(dice: &mut Dice, ground: &Ground, profile: &Profile) -> Command {
     let call = ground.change(dice, Some(profile));
-    if dice.one_in(8) {
-        spoiled(dice, call)
-    } else {
-        call
-    }
+    spoiled_once_in(8, dice, call)
 }
