@@ -14,7 +14,6 @@ use Rattle.rules.specs.BenchCard.{Scan as RuledScan, scanOf}
 use Rattle.rules.proofs.Lists.{Some}
 use Rattle.rules.proofs.BenchCard.{CardRight, card-bad-zero, scan-tells, scan-zeros, scan-right, scan-flag, scan-count}
 use Rattle.hall.specs.Says.{answerSays}
-use Rattle.card.specs.Records.{Fields, recordsOf}
 use Rattle.card.specs.Says.{scanSays}
 use Rattle.card.specs.declared.pass.Scan.{Scan}
 
@@ -41,15 +40,15 @@ module _ (records : List Band) (k : ℕ) where
         count-exact = scan-count records k (both .0) (both .1);
       }
 
-module _ (f : Fields) (k : ℕ) (r : Scan) (meets : scanSays r ≡ scanOf (recordsOf f) k) where
-  pub accepted-where-right : (answerSays (r .answer) ≡ 0) ↔ ((k ≤ highestKey) × CardRight (recordsOf f))
-  accepted-where-right = rw (ap (λ (s : RuledScan). s .refusal) meets) (accepted (recordsOf f) k)
+module _ (records : List Band) (k : ℕ) (r : Scan) (meets : scanSays r ≡ scanOf records k) where
+  pub accepted-where-right : (answerSays (r .answer) ≡ 0) ↔ ((k ≤ highestKey) × CardRight records)
+  accepted-where-right = rw (ap (λ (s : RuledScan). s .refusal) meets) (accepted records k)
 
-  pub scan-exact : answerSays (r .answer) ≡ 0 → ExactScan (recordsOf f) k (scanSays r)
-  scan-exact z = rw meets (exact (recordsOf f) k (ap (λ (s : RuledScan). s .refusal) (sym meets) ∙ z))
+  pub scan-exact : answerSays (r .answer) ≡ 0 → ExactScan records k (scanSays r)
+  scan-exact z = rw meets (exact records k (ap (λ (s : RuledScan). s .refusal) (sym meets) ∙ z))
 
   -- beside something bad flags and count are zero
   pub bad-card-zeros : (answerSays (r .answer) ≡ 0 → ⊥) → (r .flags ≡ noFlags) × (r .count ≡ 0)
   bad-card-zeros h =
-      let zeros = scan-zeros (recordsOf f) k (λ z. h (ap (λ (s : RuledScan). s .refusal) meets ∙ scan-tells (recordsOf f) k .0 ∙ z)) in
+      let zeros = scan-zeros records k (λ z. h (ap (λ (s : RuledScan). s .refusal) meets ∙ scan-tells records k .0 ∙ z)) in
       (ap (λ (s : RuledScan). s .flags) meets ∙ zeros .0, ap (λ (s : RuledScan). s .count) meets ∙ zeros .1)

@@ -1,20 +1,35 @@
--- The records that slices of fields lend: as many as the shortest slice has, each at its index.
+-- The records kept as words: as many as are read, each at its index.
 -- Assumes nothing.
-use Prim.Native.Nat.{ℕ, _+_, _<_}
+use Prim.Native.Nat.{ℕ, _+_, _/_, _≤_, _<_}
 use native.Mathlib.Nat.{zero-add}
 use native.Mathlib.Numerals.{add-one}
-use mathlib.Core.Path.{_≡_, refl}
-use mathlib.Core.List.{_∷_}
-use lib.ListN.{length, drop}
-use Rattle.rules.proofs.Lists.{made-length, made-here}
-use Rattle.card.specs.Records.{Fields, recordAt, recordsFrom, shortest, recordsOf}
+use native.Mathlib.Omega.{arith}
+use mathlib.Core.Path.{_≡_, refl, ap, _∙_}
+use mathlib.Core.List.{List, _∷_}
+use lib.ListN.{length, getD, drop}
+use Rattle.rules.specs.HallLine.{Band}
+use Rattle.rules.proofs.Lists.{made-length, made-at, made-here}
+use Rattle.card.specs.Records.{mostRecords, recordAt, recordsFrom, recordCount, recordsIn}
 
-module _ (f : Fields) where
-  pub records-length : length (recordsOf f) ≡ shortest f
-  unfolding recordsOf
-  records-length = made-length (recordAt f) (recordsFrom f) (λ i. refl) (λ i m. refl) 0 (shortest f)
+module _ (ws : List ℕ) where
+  pub count-at-most : recordCount ws ≤ mostRecords
+  unfolding recordCount
+  count-at-most = omega arith
 
-  pub record-here : (i : ℕ) → i < shortest f → drop i (recordsOf f) ≡ recordAt f i ∷ drop (i + 1) (recordsOf f)
-  unfolding recordsOf
+  pub count-whole : recordCount ws ≤ length ws / 6
+  unfolding recordCount
+  count-whole = omega arith
+
+  pub records-length : length (recordsIn ws) ≡ recordCount ws
+  unfolding recordsIn
+  records-length = made-length (recordAt ws) (recordsFrom ws) (λ i. refl) (λ i m. refl) 0 (recordCount ws)
+
+  pub record-at-index : (d : Band) (i : ℕ) → i < recordCount ws → getD (recordsIn ws) i d ≡ recordAt ws i
+  unfolding recordsIn
+  record-at-index d i h =
+      made-at (recordAt ws) (recordsFrom ws) (λ j. refl) (λ j m. refl) d 0 (recordCount ws) i h ∙ ap (recordAt ws) (zero-add i)
+
+  pub record-here : (i : ℕ) → i < recordCount ws → drop i (recordsIn ws) ≡ recordAt ws i ∷ drop (i + 1) (recordsIn ws)
+  unfolding recordsIn
   record-here i h =
-      rw (add-one, made-here (recordAt f) (recordsFrom f) (λ j. refl) (λ j m. refl) 0 (shortest f) i h, zero-add)
+      rw (add-one, made-here (recordAt ws) (recordsFrom ws) (λ j. refl) (λ j m. refl) 0 (recordCount ws) i h, zero-add)

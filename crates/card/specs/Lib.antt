@@ -1,4 +1,4 @@
--- The bench card's records as they are lent, the pass over them, and what its answer says.
+-- The bench card's records as they are lent or kept as words, the pass over them, and what its answer says.
 pub mod Records
 pub mod Pass
 pub mod Says

@@ -1,46 +1,52 @@
--- The card's records over parallel slices of numbers, one slice for each field: as many records as the shortest slice has.
+-- The card's records: those of a lent slice of bands, and those kept as words, six to a record: number, scope, low, high, low closed, high closed.
 -- Assumes nothing.
-use Prim.Native.Nat.{ℕ, zero, suc, min}
-use mathlib.Core.List.{List, [], _∷_}
+use Prim.Native.Nat.{ℕ, zero, suc, _+_, _*_, _/_, min}
+use mathlib.Core.Bool.{cond}
+use mathlib.Core.List.{List, [], _∷_, map}
+use lib.Dec.{ltb}
 use lib.ListN.{length, getD}
-use Rattle.rules.specs.Connectives.{saysYes}
+use lib.Seq.{sets}
+use Rattle.rules.specs.Connectives.{oneIf, saysYes}
 use Rattle.rules.specs.HallLine.{Band, bandOf}
+use Rattle.hall.specs.SaidBand.{said}
+use Rattle.hall.specs.declared.bands.Band.{Band as LentBand}
 
-pub record Fields : Type 0 where
-  pub numbers : List ℕ
-  pub scopes : List ℕ
-  pub lows : List ℕ
-  pub highs : List ℕ
-  pub lowClosed : List ℕ
-  pub highClosed : List ℕ
+-- the records of lent bands
+abbrev pub bandsOf : List LentBand → List Band
+bandsOf = map said
 
--- the fields that are lent as these six slices
-abbrev pub lentFields : List ℕ → List ℕ → List ℕ → List ℕ → List ℕ → List ℕ → Fields
-lentFields ns ss ls hs lcs hcs =
-    record { numbers = ns; scopes = ss; lows = ls; highs = hs; lowClosed = lcs; highClosed = hcs }
+-- the most records that are read of one lent slice of words
+abbrev pub mostRecords : ℕ
+mostRecords = 1100
 
 -- the record at index i; a closed word is open at 0, else closed
-unfoldable pub recordAt : Fields → ℕ → Band
-recordAt f i =
+unfoldable pub recordAt : List ℕ → ℕ → Band
+recordAt ws i =
     bandOf
-    (getD (f .numbers) i 0)
-    (getD (f .scopes) i 0)
-    (getD (f .lows) i 0)
-    (getD (f .highs) i 0)
-    (saysYes (getD (f .lowClosed) i 0))
-    (saysYes (getD (f .highClosed) i 0))
+    (getD ws (i * 6) 0)
+    (getD ws (i * 6 + 1) 0)
+    (getD ws (i * 6 + 2) 0)
+    (getD ws (i * 6 + 3) 0)
+    (saysYes (getD ws (i * 6 + 4) 0))
+    (saysYes (getD ws (i * 6 + 5) 0))
 
 -- m records from index i on
-abbrev pub recordsFrom : Fields → ℕ → ℕ → List Band
-recordsFrom f i zero = []
-recordsFrom f i (suc m) = recordAt f i ∷ recordsFrom f (suc i) m
+abbrev pub recordsFrom : List ℕ → ℕ → ℕ → List Band
+recordsFrom ws i zero = []
+recordsFrom ws i (suc m) = recordAt ws i ∷ recordsFrom ws (suc i) m
 
--- the length of the shortest slice
-unfoldable pub shortest : Fields → ℕ
-shortest f =
-    min
-    (min (min (length (f .numbers)) (length (f .scopes))) (min (length (f .lows)) (length (f .highs))))
-    (min (length (f .lowClosed)) (length (f .highClosed)))
+-- how many records are read: the whole ones, up to the most
+unfoldable pub recordCount : List ℕ → ℕ
+recordCount ws = min (length ws / 6) mostRecords
 
-unfoldable pub recordsOf : Fields → List Band
-recordsOf f = recordsFrom f 0 (shortest f)
+-- the records that are read
+unfoldable pub recordsIn : List ℕ → List Band
+recordsIn ws = recordsFrom ws 0 (recordCount ws)
+
+-- the six words of a record
+abbrev pub wordsOf : Band → List ℕ
+wordsOf b = b .number ∷ b .scope ∷ b .low ∷ b .high ∷ oneIf (b .lowClosed) ∷ oneIf (b .highClosed) ∷ []
+
+-- the words with a record at index i; past the last whole place nothing changes
+unfoldable pub withRecord : List ℕ → ℕ → Band → List ℕ
+withRecord ws i b = cond (ltb i (length ws / 6)) (sets ws (i * 6) (wordsOf b)) ws

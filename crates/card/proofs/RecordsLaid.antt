@@ -1,0 +1,111 @@
+-- A record that was laid among the words is read back, and the other records stand as they did.
+-- Assumes nothing.
+use Prim.Native.Nat.{ℕ, zero, suc, _+_, _*_, _/_, _≤_, _<_}
+use native.Mathlib.Nat.{add-zero}
+use native.Mathlib.Numerals.{towards-suc}
+use native.Mathlib.Omega.{arith}
+use mathlib.Core.Path.{_≡_, refl, sym, ap, _∙_}
+use mathlib.Core.Bool.{Bool, true, false}
+use mathlib.Core.List.{List, [], _∷_}
+use borrow.Author.Tests.{ltb-true, ltb-false, lt-ltb, le-ltb}
+use lib.Dec.{ltb}
+use lib.ListN.{length, getD, set, length-set}
+use lib.Seq.{sets, getD-set-same, getD-set-other}
+use Rattle.rules.specs.Connectives.{oneIf, saysYes}
+use Rattle.rules.specs.HallLine.{Band}
+use Rattle.card.specs.Records.{recordAt, wordsOf, withRecord}
+
+-- ---- a run of stores
+
+-- before the run and after it the words stand as they did ..
+stored-before : (l vs : List ℕ) (i j d : ℕ) → j < i → getD (sets l i vs) j d ≡ getD l j d
+stored-before l [] i j d h = refl
+stored-before l (v ∷ vs) i j d h = stored-before (set l i v) vs (suc i) j d (omega arith) ∙ getD-set-other l i j v d (omega arith)
+
+stored-after : (l vs : List ℕ) (i j d : ℕ) → i + length vs ≤ j → getD (sets l i vs) j d ≡ getD l j d
+stored-after l [] i j d h = refl
+stored-after l (v ∷ vs) i j d h = stored-after (set l i v) vs (suc i) j d (omega arith) ∙ getD-set-other l i j v d (omega arith)
+
+-- .. and in it each stored word stands at its place
+stored-at : (l vs : List ℕ) (i k d : ℕ) → i + length vs ≤ length l → k < length vs → getD (sets l i vs) (i + k) d ≡ getD vs k d
+stored-at l [] i k d h m = absurd (omega arith)
+stored-at l (v ∷ vs) i zero d h m =
+    rw add-zero (stored-before (set l i v) vs (suc i) i d (omega arith) ∙ getD-set-same l i v d (omega arith))
+stored-at l (v ∷ vs) i (suc k) d h m =
+    let moved : i + suc k ≡ suc i + k = omega arith in
+    rw moved (stored-at (set l i v) vs (suc i) k d (omega (arith, length-set l i v)) (omega arith))
+
+-- ---- a record
+
+closed-back : (t : Bool) → saysYes (oneIf t) ≡ t
+closed-back true = refl
+closed-back false = refl
+
+module _ (ws : List ℕ) (i : ℕ) (b : Band) where
+  -- the six stores
+  abbrev laid : List ℕ
+  laid = sets ws (i * 6) (wordsOf b)
+
+  -- past them nothing changes
+  pub record-out : length ws / 6 ≤ i → withRecord ws i b ≡ ws
+  unfolding withRecord
+  record-out h = rw (le-ltb i (length ws / 6) h)
+
+  module _ (h : i < length ws / 6) where
+    -- below the whole places it is the six stores
+    with-record : withRecord ws i b ≡ laid
+    unfolding withRecord
+    with-record = rw (lt-ltb i (length ws / 6) h)
+
+    -- one store after the other, as code makes them
+    pub record-stored : withRecord ws i b
+        ≡ set (set (set (set (set (set ws (i * 6) (b .number)) (i * 6 + 1) (b .scope)) (i * 6 + 2) (b .low)) (i * 6 + 3) (b .high))
+        (i * 6 + 4) (oneIf (b .lowClosed))) (i * 6 + 5) (oneIf (b .highClosed))
+    record-stored = with-record ∙ simp towards-suc
+
+    word : (k : ℕ) → k < 6 → getD laid (i * 6 + k) 0 ≡ getD (wordsOf b) k 0
+    word k m = stored-at ws (wordsOf b) (i * 6) k 0 (omega arith) m
+
+    pub record-laid : recordAt (withRecord ws i b) i ≡ b
+    unfolding recordAt
+    record-laid =
+        let first : getD laid (i * 6) 0 ≡ b .number = ap (λ (j : ℕ). getD laid j 0) (sym (add-zero (i * 6))) ∙ word 0 (omega arith) in
+        rw (
+          with-record,
+          first,
+          word 1 (omega arith),
+          word 2 (omega arith),
+          word 3 (omega arith),
+          word 4 (omega arith),
+          word 5 (omega arith),
+          closed-back (b .lowClosed),
+          closed-back (b .highClosed),
+        )
+
+    other-word : (j k : ℕ) → (j ≡ i → ⊥) → k < 6 → getD laid (j * 6 + k) 0 ≡ getD ws (j * 6 + k) 0
+    other-word j k n m = go (ltb j i) refl
+      where
+        go : (t : Bool) → ltb j i ≡ t → getD laid (j * 6 + k) 0 ≡ getD ws (j * 6 + k) 0
+        go true e = let l = ltb-true j i e in stored-before ws (wordsOf b) (i * 6) (j * 6 + k) 0 (omega arith)
+        go false e = let l = ltb-false j i e in stored-after ws (wordsOf b) (i * 6) (j * 6 + k) 0 (omega arith)
+
+    other-kept : (j : ℕ) → (j ≡ i → ⊥) → recordAt (withRecord ws i b) j ≡ recordAt ws j
+    unfolding recordAt
+    other-kept j n =
+        let first : getD laid (j * 6) 0 ≡ getD ws (j * 6) 0 = rw add-zero at (other-word j 0 n (omega arith)) in
+        rw (
+          with-record,
+          first,
+          other-word j 1 n (omega arith),
+          other-word j 2 n (omega arith),
+          other-word j 3 n (omega arith),
+          other-word j 4 n (omega arith),
+          other-word j 5 n (omega arith),
+        )
+
+  pub other-record-kept : (j : ℕ) → (j ≡ i → ⊥) → recordAt (withRecord ws i b) j ≡ recordAt ws j
+  other-record-kept j n = go (ltb i (length ws / 6)) refl
+    where
+      go : (t : Bool) → ltb i (length ws / 6) ≡ t → recordAt (withRecord ws i b) j ≡ recordAt ws j
+      go true e = other-kept (ltb-true i (length ws / 6) e) j n
+      go false e = ap (λ (us : List ℕ). recordAt us j) (record-out (ltb-false i (length ws / 6) e))
