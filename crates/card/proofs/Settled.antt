@@ -43,7 +43,7 @@ Given = RefT (List Band) × (Key × Unit {0})
 abbrev pub ScanPromise : Given → Scan → Type 0
 ScanPromise given r = scanSays r ≡ scanOf (bandsOf (now (given .0))) (given .1 .0 .0)
 
--- .. is what the `ensures` says, no less and no more: the checker of borrows reads no such clause, so it is read here
+-- .. is what the `ensures` says, no less and no more: the borrow checker reads no such clause, so it is read here
 module _ {M : Type 1} (𝓤 : URA M) (H : Heap 𝓤) (A : Atoms 𝓤) (mem : Memory → SProp 𝓤) (run : Routine → Fun 𝓤) where
   pub promise-is-ensured : (κs : Lfts 1) (given : Given) (r : Scan) (end : AtExit scan.ended κs)
       → scan.clauses 𝓤 H A mem run κs given .ensures tt r end ≡ fact 𝓤 (ScanPromise given r)

@@ -1,5 +1,5 @@
 // The card over a lent slice of bands.
-// The checker of borrows follows no reference to a struct: the proof walks this function by hand, so it does nothing but read and call.
+// The borrow checker follows no reference to a struct: this function is walked by hand, so it does nothing but read a band, take it apart and call.
 ghost use mathlib.Core.Path.{_≡_};
 ghost use Rattle.rules.specs.BenchCard.{scanOf};
 ghost use Rattle.card.specs.Records.{bandsOf};
@@ -18,7 +18,16 @@ pub fn scan(cards: &[Band], key: Key) -> Scan
     while at < cards.len() {
         let band = cards[at];
         at += 1;
-        pass = pass.step(at, band, key);
+        pass = pass.step(
+            at,
+            band.number,
+            band.scope,
+            band.low,
+            band.high,
+            band.low_closed,
+            band.high_closed,
+            key,
+        );
     }
     pass.told()
 }

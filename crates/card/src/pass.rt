@@ -1,6 +1,7 @@
 // One pass over the card, record by record: what is seen and what is held so far, until something is bad.
 ghost use mathlib.Core.Path.{_≡_};
 ghost use lib.Dec.{eqb};
+ghost use Rattle.rules.specs.HallLine.{bandOf};
 ghost use Rattle.hall.specs.Says.{answerSays};
 ghost use Rattle.hall.specs.SaidBand.{said};
 ghost use Rattle.card.specs.Pass.{bare, beginOf, judgeOf, enteredOf, stepOf, toldOf};
@@ -35,7 +36,7 @@ impl Pass {
     }
 
     // Whether nothing is wrong so far.
-    pub(crate) fn is_right(self) -> bool
+    fn is_right(self) -> bool
         ensures { λ r. ⌜ r ≡ eqb (answerSays (self .answer)) 0 ⌝ }
     {
         let answer = self.answer;
@@ -46,9 +47,28 @@ impl Pass {
     }
 
     // Judges the record at a place and enters it, or tells it. Once something is wrong, records play no part.
-    pub(crate) fn step(self, place: usize, band: Band, key: Key) -> Pass
-        ensures { λ r. ⌜ passSays r ≡ stepOf (passSays self) place (said band) (key .0) ⌝ }
+    // The record comes as its fields: `scan`, which reads it out of a lent slice, takes it apart.
+    pub(crate) fn step(
+        self,
+        place: usize,
+        number: u32,
+        scope: u32,
+        low: Key,
+        high: Key,
+        low_closed: bool,
+        high_closed: bool,
+        key: Key,
+    ) -> Pass
+        ensures { λ r. ⌜ passSays r ≡ stepOf (passSays self) place (bandOf number scope (low .0) (high .0) «low_closed» «high_closed») (key .0) ⌝ }
     {
+        let band = Band {
+            number,
+            scope,
+            low,
+            high,
+            low_closed,
+            high_closed,
+        };
         if !self.is_right() {
             return self;
         }

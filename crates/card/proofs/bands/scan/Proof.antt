@@ -1,5 +1,6 @@
 -- `card::scan` meets its contract: a walk of its MIR, by hand. All that it knows of the functions it calls is that each meets its contract.
 -- The walk is cut after each call, into lemmas with their contexts written out:
+--   BandApart  a band taken apart into its fields
 --   Callees    what each callee is handed, and what its answer tells
 --   Held       what the walk is passed, its locals, the loop's state, and what is had at the top of a turn
 --   BandRead   a band is read out of the slice
@@ -7,6 +8,7 @@
 --   Turn       a turn of the loop
 --   Begun      the pass is begun, and the loop runs
 -- Assumes nothing.
+mod BandApart
 mod Callees
 mod Held
 mod BandRead
