@@ -41,7 +41,7 @@ module _ (seen : List ℕ) (b : Band) where
       lowest-past (bandLines b) (line 8 (member (b .number) seen) ∷ []) (lowest-zero (bandLines b) (omega arith) .0 z)
 
 -- where the flags are those of the numbers seen, a record is judged as by the rules: the flag is asked only of a number that has one
-pub judged-as-ruled : (seen : List ℕ) (b : Band) → judgeOf (flagsOf seen) b ≡ recordFault seen b
+judged-as-ruled : (seen : List ℕ) (b : Band) → judgeOf (flagsOf seen) b ≡ recordFault seen b
 judged-as-ruled seen b = go (eqb (bandFault b) 0) refl
   where
     go : (t : Bool) → eqb (bandFault b) 0 ≡ t → judgeOf (flagsOf seen) b ≡ recordFault seen b
@@ -72,7 +72,7 @@ module _ (p : Pass) (place : ℕ) (b : Band) (k : ℕ) where
     unfolding stepOf
     step-told h = rw (right, ne-eqb (judgeOf (p .seen) b) 0 h)
 
-pub pass-wrong : (p : Pass) (place : ℕ) (bs : List Band) (k : ℕ) → (p .refusal ≡ 0 → ⊥) → passOver p place bs k ≡ p
+pass-wrong : (p : Pass) (place : ℕ) (bs : List Band) (k : ℕ) → (p .refusal ≡ 0 → ⊥) → passOver p place bs k ≡ p
 pass-wrong p place [] k h = refl
 pass-wrong p place (b ∷ bs) k h = rw (step-wrong p place b k h) (pass-wrong p (place + 1) bs k h)
 

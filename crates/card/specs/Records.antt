@@ -15,11 +15,7 @@ use Rattle.hall.specs.declared.bands.Band.{Band as LentBand}
 abbrev pub bandsOf : List LentBand → List Band
 bandsOf = map said
 
--- the most records that are read of one lent slice of words
-abbrev pub mostRecords : ℕ
-mostRecords = 1100
-
--- the record at index i; a closed word is open at 0, else closed
+-- the record at index i; an end is open where its word is 0, else closed
 unfoldable pub recordAt : List ℕ → ℕ → Band
 recordAt ws i =
     bandOf
@@ -35,13 +31,9 @@ abbrev pub recordsFrom : List ℕ → ℕ → ℕ → List Band
 recordsFrom ws i zero = []
 recordsFrom ws i (suc m) = recordAt ws i ∷ recordsFrom ws (suc i) m
 
--- how many records are read: the whole ones, up to the most
-unfoldable pub recordCount : List ℕ → ℕ
-recordCount ws = min (length ws / 6) mostRecords
-
--- the records that are read
+-- all whole records among the words
 unfoldable pub recordsIn : List ℕ → List Band
-recordsIn ws = recordsFrom ws 0 (recordCount ws)
+recordsIn ws = recordsFrom ws 0 (length ws / 6)
 
 -- the six words of a record
 abbrev pub wordsOf : Band → List ℕ
@@ -50,3 +42,13 @@ wordsOf b = b .number ∷ b .scope ∷ b .low ∷ b .high ∷ oneIf (b .lowClose
 -- the words with a record at index i; past the last whole place nothing changes
 unfoldable pub withRecord : List ℕ → ℕ → Band → List ℕ
 withRecord ws i b = cond (ltb i (length ws / 6)) (sets ws (i * 6) (wordsOf b)) ws
+
+-- ---- how the code reads them: no promise of a public function speaks of these
+
+-- the most records that are read of one lent slice of words
+abbrev pub mostRecords : ℕ
+mostRecords = 1100
+
+-- how many records are read: the whole ones, up to the most
+unfoldable pub readCount : List ℕ → ℕ
+readCount ws = min (length ws / 6) mostRecords

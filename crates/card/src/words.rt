@@ -1,12 +1,12 @@
-// The card kept as words, six to a record: number, scope, low, high, low closed, high closed. A closed word is open at 0, else closed.
-// These functions have plain parameters, so whoever calls them needs no walk by hand.
+// The card kept as words, six to a record: number, scope, low, high, low closed, high closed. An end is open where its word is 0, else closed.
+// The two public functions have plain parameters, so that their callers need no walk by hand.
 ghost use mathlib.Core.Path.{_≡_};
 ghost use Prim.Native.Nat.{_<_, _≤_, _/_};
 ghost use lib.ListN.{length, take};
 ghost use Rattle.rules.specs.BenchCard.{scanOf};
 ghost use Rattle.rules.specs.Connectives.{oneIf};
 ghost use Rattle.hall.specs.SaidBand.{said};
-ghost use Rattle.card.specs.Records.{bandsOf, mostRecords, recordAt, recordCount, recordsIn, withRecord};
+ghost use Rattle.card.specs.Records.{bandsOf, mostRecords, readCount, recordAt, recordsIn, withRecord};
 ghost use Rattle.card.specs.Says.{scanSays};
 use crate::bands::scan;
 use crate::pass::Scan;
@@ -15,10 +15,10 @@ use hall::Key;
 
 pub const RECORD_WORDS: usize = 6;
 
-// The most records that are read of one lent slice.
+// The most records that are read of one lent slice. They are more than there are numbers, so where some are left unread one of these is bad.
 pub const MOST_RECORDS: usize = 1100;
 
-// Scans the whole records among the words, as many as are read.
+// Scans all whole records among the words. Those left unread come after a bad one and play no part.
 pub fn scan_words(words: &[u32], key: Key) -> Scan
     ensures { λ r. ⌜ scanSays r ≡ scanOf (recordsIn (now (words .entry))) (key .0) ⌝ }
 {
@@ -66,7 +66,7 @@ fn record_at(words: &[u32], at: usize) -> Band
 
 // How many records are read.
 fn record_count(words: &[u32]) -> usize
-    ensures { λ r. ⌜ r ≡ recordCount (now (words .entry)) ⌝ }
+    ensures { λ r. ⌜ r ≡ readCount (now (words .entry)) ⌝ }
 {
     let whole = words.len() / RECORD_WORDS;
     if whole < MOST_RECORDS {
@@ -78,8 +78,8 @@ fn record_count(words: &[u32]) -> usize
 
 // The first `count` records as an array; the places after them hold a band that is not read.
 fn gather(words: &[u32], count: usize) -> [Band; MOST_RECORDS]
-    requires { ⌜ count ≡ recordCount (now words) ⌝ }
-    ensures { λ r. ⌜ bandsOf (take count r) ≡ recordsIn (now (words .entry)) ⌝ }
+    requires { ⌜ count ≡ readCount (now words) ⌝ }
+    ensures { λ r. ⌜ bandsOf (take count r) ≡ take count (recordsIn (now (words .entry))) ⌝ }
 {
     let unread = Band {
         number: 0,

@@ -1,24 +1,26 @@
 -- "When the box says no", the bench card: a card is right when each record is right by 2 to 6 and no number stands twice; else the first
 -- bad place is told, with the fault of the record there; flags and count are of the records that hold the key, and zero where something is bad.
+-- Of more records than there are numbers one is bad, so those that come after them play no part.
 -- Assumes nothing.
 use Prim.Native.Nat.{ℕ, suc, _+_, _≤_, _<_}
 use mathlib.Core.Path.{_≡_, refl, sym, _∙_, ap, ap₂}
 use mathlib.Core.Bool.{true}
 use mathlib.Core.Logic.{_↔_, Iff·trans, _⊎_, inl, inr, ⊎-elim, ⊎-map}
-use mathlib.Core.List.{List, [], _∷_, _++_, append-nil}
+use mathlib.Core.List.{List, [], _∷_, _++_, append-nil, append-assoc}
 use native.Mathlib.Omega.{arith}
 use borrow.Author.Tests.{eqb-true, eqb-false, eq-eqb, ne-eqb, lt-ltb}
 use lib.Dec.{eqb}
-use lib.ListN.{length, replicate}
+use lib.ListN.{length, take, drop, replicate, length-map, length-take, take-append-drop}
+use lib.Seq.{take-all}
 use Rattle.rules.specs.Lists.{member, countIf}
 use Rattle.rules.specs.HallLine.{Band, highestKey, holds}
-use Rattle.rules.specs.Flags.{flagAt}
+use Rattle.rules.specs.Flags.{flagCount, flagAt, countOf}
 use Rattle.rules.specs.BoxSaysNo.{line, keyAbove, bandLines, keyFault, bandFault}
 use Rattle.rules.specs.BenchCard.{bad, recordFault, firstBad, cardBad, scanned, scanOf}
 use Rattle.rules.proofs.Means.{passes-or-fails, itself, denied, same-means, lt-means, at-most-or-above}
 use Rattle.rules.proofs.Lists.{In, Some, Each, each-cons, all-means, member-means, Distinct, distinct-means, in-middle, in-map}
 use Rattle.rules.proofs.Marks.{in-numbers, numbersOf, length-of-numbers, numbers-stay-apart, numbersHolding}
-use Rattle.rules.proofs.Flags.{flag-set-where-in, count-without-repeats, flags-of-none, count-of-nothing}
+use Rattle.rules.proofs.Flags.{flag-set-where-in, count-at-most-flags, count-without-repeats, flags-of-none, count-of-nothing}
 use Rattle.rules.proofs.BoxSaysNo.{lowest-here, lowest-first, lowest-enough, lowest-zero, last-zero, BandRight, band-lines-zero, key-fault-zero, band-fault-zero}
 
 -- ---- one record, after some numbers were seen
@@ -165,6 +167,15 @@ first-bad-zero seen place cards = (
   λ r. ap (λ b. b .refusal) (first-bad-none seen place cards r),
 )
 
+-- where a record is bad those that come after play no part
+first-bad-stays : (seen : List ℕ) (place : ℕ) (cards more : List Band) → FirstBad seen cards
+    → firstBad seen place (cards ++ more) ≡ firstBad seen place cards
+first-bad-stays seen place cards more w =
+    ap (λ cs. firstBad seen place (cs ++ more)) (w .split)
+    ∙ ap (firstBad seen place) (append-assoc (w .before) (w .here ∷ w .after) more)
+    ∙ first-bad-at seen place (w .before) (w .here) (w .after ++ more) (w .before-right) (w .here-bad)
+    ∙ sym (first-bad-told seen place cards w)
+
 -- ---- the card and its key
 
 module _ (cards : List Band) (k : ℕ) where
@@ -231,3 +242,45 @@ module _ (cards : List Band) (k : ℕ) where
             let s = in-numbers (λ b. itself (holds b k)) n cards .0 i in
             let right = r .records-right (s .0) (s .1) in
             omega arith
+
+-- ---- a card of more records than there are numbers
+
+-- a right card has at most one record for each number
+right-card-short : (cards : List Band) → CardRight cards → length cards ≤ flagCount
+right-card-short cards r = omega (arith, each-counted, count-at-most-flags (numbersOf cards), length-map cards (λ b. b .number))
+  where
+    below : Each (λ n. n < 1024) (numbersOf cards)
+    below n i =
+        let s = in-map (λ b. b .number) n cards .0 i in
+        let right = r .records-right (s .0) (s .1) in
+        omega arith
+
+    each-counted : countOf (numbersOf cards) ≡ length (numbersOf cards)
+    each-counted =
+        count-without-repeats (numbersOf cards)
+        (all-means (λ n. lt-means n 1024) (numbersOf cards) .test below)
+        (distinct-means (numbersOf cards) .test (r .numbers-apart))
+
+module _ (cards more : List Band) (k : ℕ) (w : FirstBad [] cards) where
+  not-right : cardBad cards k .refusal ≡ 0 → ⊥
+  not-right z =
+      let right = card-bad-zero cards k .0 z in
+      let told = ap (λ b. b .refusal) (card-first-bad cards k (right .0) w) in
+      w .here-bad (sym told ∙ z)
+
+  bad-as-first : cardBad (cards ++ more) k ≡ cardBad cards k
+  unfolding cardBad
+  bad-as-first = rw (first-bad-stays [] 1 cards more w)
+
+  scan-as-first : scanOf (cards ++ more) k ≡ scanOf cards k
+  unfolding scanOf
+  scan-as-first = rw (bad-as-first, ne-eqb (cardBad cards k .refusal) 0 not-right)
+
+-- more records than there are numbers tell what all tell: they are all, or one of them is bad
+pub enough-records : (cards : List Band) (m k : ℕ) → flagCount < m → scanOf (take m cards) k ≡ scanOf cards k
+enough-records cards m k h =
+    ⊎-elim
+    (λ r. let short = right-card-short (take m cards) (r .0) in
+    ap (λ cs. scanOf cs k) (take-all m cards (omega (arith, length-take m cards))))
+    (λ w. sym (scan-as-first (take m cards) (drop m cards) k w) ∙ ap (λ cs. scanOf cs k) (take-append-drop m cards))
+    (right-or-bad [] (take m cards))

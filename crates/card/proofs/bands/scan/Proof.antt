@@ -1,12 +1,12 @@
 -- `card::scan` meets its contract: a walk of its MIR, by hand. All that it knows of the functions it calls is that each meets its contract.
--- The walk is cut after each call, into lemmas with their contexts written out:
+-- The walk is cut after each call, into lemmas with their contexts written out; what follows a call is a lemma of its own, from the value returned:
 --   BandApart  a band taken apart into its fields
 --   Callees    what each callee is handed, and what its answer tells
 --   Held       what the walk is passed, its locals, the loop's state, and what is had at the top of a turn
 --   BandRead   a band is read out of the slice
---   Ended      the pass is told, and its answer returned
---   Turn       a turn of the loop
---   Begun      the pass is begun, and the loop runs
+--   Ended      the pass is told; `told-landed`: its answer is stored and returned
+--   Turn       a turn of the loop, where the pass steps; `step-landed`: it is stored, for the next turn
+--   Begun      the pass is begun; `begin-landed`: it is stored, and the loop runs
 -- Assumes nothing.
 mod BandApart
 mod Callees

@@ -4,7 +4,7 @@ use Prim.Native.Nat.{_-_}
 use mathlib.Core.Path.{_≡_}
 use native.Mathlib.Omega.{arith}
 use Rattle.card.proofs.Records.{count-at-most, count-whole}
-use Rattle.card.proofs.Gathered.{Gathered, gathered-at-first, gathered-on, gathered-all}
+use Rattle.card.proofs.Gathered.{Gathered, gathered-at-first, gathered-on}
 use Rattle.card.proofs.words.gather.Statement.{statement}
 use Rattle.card.proofs.words.gather.Tie as tie
 
@@ -38,7 +38,7 @@ loop-again c = gathered-on _ _ _ (c .before .before .loop .inv) _ (omega arith) 
 returns : tie.Need-returns Inv-loop μ-loop
 returns c =
     let all : c .before .before .before .args .count ≡ c .before .loop .at = omega arith in
-    rw all (gathered-all _ _ _ (omega arith) (c .before .loop .inv))
+    rw all (c .before .loop .inv .first-bands)
 
 pub gather-spec : {M : Type 1} → statement M
 gather-spec =

@@ -1,5 +1,6 @@
 -- `card::words::scan_first` meets its contract: a walk of its MIR, by hand. The array is copied into a local; its first elements are lent as a slice for a
 -- lifetime that is made for the call of `scan`, and taken back once that lifetime is over. All that the proof knows of `scan` is that it meets its contract.
+-- The walk is cut into lemmas with their contexts written out: `starts`, until the slice is put together; `lends`, from there to the call; `lands-it`, after it.
 -- Assumes nothing.
 use mathlib.Core.Path.{_≡_, refl, sym}
 use Prim.Native.Nat.{ℕ, _≤_, _<_, _^_}
