@@ -6,11 +6,20 @@
 mod common;
 
 use common::spoiled;
+use second::desk::foreseen::Foreseen;
+use second::desk::script::Script;
 use second::drive::comparing::{first_difference, Answered};
-use second::drive::cutting::{cut, Cut};
-use second::drive::plan::{jobs_of_seed, Job};
+use second::drive::cutting::{cut_by, Bound, Cut, USUAL_BOUND};
+use second::drive::plan::{jobs_of_seed, kind_named, Job};
 use second::drive::showing::shown;
 use second::drive::Desk;
+use std::time::Duration;
+
+/// As many runs as ever, however long they take: a slow machine cuts to the same lines.
+const BOUND: Bound = Bound {
+    time: Duration::from_secs(3600),
+    ..USUAL_BOUND
+};
 
 /// An error that no life shows with this many seeds might be missed by a run as well.
 const SEEDS: u64 = 4;
@@ -28,7 +37,8 @@ fn found(desk: &Desk) -> Cut {
         let script = (job.kind.make)(job.seed);
         if let Some(difference) = first_difference(desk, &script) {
             println!("{}", job.name());
-            return cut(desk, &script, difference);
+            let differs = |script: &Script| first_difference(desk, script);
+            return cut_by(&script, difference, BOUND, differs);
         }
     }
     panic!("no life shows the error");
@@ -129,6 +139,32 @@ fn a_word_left_behind_by_a_remove_is_found() {
 #[test]
 fn a_check_that_only_says_yes_is_found() {
     bites("check-always-yes", 6, "check", "yes");
+}
+
+#[test]
+fn places_of_the_card_that_count_from_zero_are_found() {
+    bites("card-places-from-zero", 2, "card scan", "");
+}
+
+#[test]
+fn the_earlier_of_two_numbers_told_is_found() {
+    bites("card-tells-the-earlier", 3, "card scan", "8 place 1 ");
+}
+
+#[test]
+fn a_card_that_goes_with_the_memory_is_found() {
+    bites("card-goes-with-empty", 3, "card scan", "0 place 0 count 0");
+}
+
+#[test]
+fn a_record_too_many_on_a_card_is_found() {
+    // All that fill the card have to stay, so it is not cut down.
+    let desk = spoiled("card-takes-one-too-many");
+    let kind = kind_named("bench_card").expect("a kind");
+    let difference = first_difference(&desk, &(kind.make)(0)).expect("a difference");
+    let foreseen = Foreseen::Exactly("? card full".to_string());
+    assert_eq!(difference.foreseen, foreseen);
+    assert_eq!(difference.answered, Answered::Line("0".to_string()));
 }
 
 #[test]

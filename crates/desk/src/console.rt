@@ -14,13 +14,13 @@ fn end_line(
     bands: &mut [u32],
     nodes: &mut [u32],
     marks: &mut [u32],
+    records: &mut [u32],
     line: &[u8],
     output: &mut [u8],
 ) -> Desk {
-    let lent = desk.lent;
     let command = desk_lines::read_line(line, desk.line_length);
     let written = output::make_room(output, desk.written);
-    doing::do_command(command, lent, bands, nodes, marks, output, written)
+    doing::do_command(desk, command, bands, nodes, marks, records, output, written)
 }
 
 fn store_byte(line: &mut [u8], at: usize, byte: u8) {
@@ -39,6 +39,7 @@ fn keep_byte(desk: Desk, byte: u8, line: &mut [u8]) -> Desk {
     }
     Desk {
         lent,
+        card_end: desk.card_end,
         line_length: at + 1,
         written: desk.written,
     }
@@ -50,11 +51,12 @@ fn take_byte(
     bands: &mut [u32],
     nodes: &mut [u32],
     marks: &mut [u32],
+    records: &mut [u32],
     line: &mut [u8],
     output: &mut [u8],
 ) -> Desk {
     if byte == b'\n' {
-        end_line(desk, bands, nodes, marks, line, output)
+        end_line(desk, bands, nodes, marks, records, line, output)
     } else {
         keep_byte(desk, byte, line)
     }
@@ -66,14 +68,17 @@ fn take_bytes(
     bands: &mut [u32],
     nodes: &mut [u32],
     marks: &mut [u32],
+    records: &mut [u32],
     line: &mut [u8],
     output: &mut [u8],
 ) -> Desk {
     let mut now = desk;
     let mut at = 0;
     while at < bytes.len() {
-        now = take_byte(now, bytes[at], bands, nodes, marks, line, output);
+        let byte = bytes[at];
+        // Before the call: behind it the loop's test lies too far back for the prover.
         at += 1;
+        now = take_byte(now, byte, bands, nodes, marks, records, line, output);
     }
     now
 }
@@ -83,12 +88,28 @@ fn flushed(desk: Desk, output: &[u8]) -> Desk {
     let lent = desk.lent;
     Desk {
         lent,
+        card_end: desk.card_end,
         line_length: desk.line_length,
         written: output::flush(output, desk.written),
     }
 }
 
-// The desk at its start: the largest memory that the box takes, made empty. The answer to that is not kept.
+// Takes what was read, and writes out the answers before the desk waits for more.
+fn answer_bytes(
+    desk: Desk,
+    bytes: &[u8],
+    bands: &mut [u32],
+    nodes: &mut [u32],
+    marks: &mut [u32],
+    records: &mut [u32],
+    line: &mut [u8],
+    output: &mut [u8],
+) -> Desk {
+    let after = take_bytes(desk, bytes, bands, nodes, marks, records, line, output);
+    flushed(after, output)
+}
+
+// The desk at its start: the largest memory that the box takes, made empty, and no record on the card. The answer to the emptying is not kept.
 fn begin(bands: &mut [u32], nodes: &mut [u32], marks: &mut [u32], output: &mut [u8]) -> Desk {
     let lent = lending::at_start();
     doing::lend_for(
@@ -100,7 +121,7 @@ fn begin(bands: &mut [u32], nodes: &mut [u32], marks: &mut [u32], output: &mut [
         output,
         0,
     );
-    state::between_lines(lent, 0)
+    state::between_lines(lent, 0, 0)
 }
 
 // What one reading of the input comes to: the desk after it, and whether there may be more.
@@ -114,6 +135,7 @@ fn take_turn(
     bands: &mut [u32],
     nodes: &mut [u32],
     marks: &mut [u32],
+    records: &mut [u32],
     line: &mut [u8],
     input: &mut [u8],
     output: &mut [u8],
@@ -126,9 +148,18 @@ fn take_turn(
             goes_on: false,
         };
     }
-    let after = take_bytes(desk, &input[..count], bands, nodes, marks, line, output);
+    let after = answer_bytes(
+        desk,
+        &input[..count],
+        bands,
+        nodes,
+        marks,
+        records,
+        line,
+        output,
+    );
     Turn {
-        desk: flushed(after, output),
+        desk: after,
         goes_on: true,
     }
 }
@@ -139,6 +170,7 @@ fn take_all(
     bands: &mut [u32],
     nodes: &mut [u32],
     marks: &mut [u32],
+    records: &mut [u32],
     line: &mut [u8],
     input: &mut [u8],
     output: &mut [u8],
@@ -146,7 +178,7 @@ fn take_all(
     let mut now = desk;
     let mut turns = u64::MAX;
     while turns > 0 {
-        let taken = take_turn(now, bands, nodes, marks, line, input, output);
+        let taken = take_turn(now, bands, nodes, marks, records, line, input, output);
         now = taken.desk;
         if !taken.goes_on {
             return now;
@@ -156,19 +188,33 @@ fn take_all(
     now
 }
 
-// Does every line of the input. The input's end also ends the last line.
+// Ends the last line, as the input's end does.
+fn end_all(
+    desk: Desk,
+    bands: &mut [u32],
+    nodes: &mut [u32],
+    marks: &mut [u32],
+    records: &mut [u32],
+    line: &[u8],
+    output: &mut [u8],
+) {
+    let ended = end_line(desk, bands, nodes, marks, records, line, output);
+    flushed(ended, output);
+}
+
+// Does every line of the input.
 fn do_all(
     desk: Desk,
     bands: &mut [u32],
     nodes: &mut [u32],
     marks: &mut [u32],
+    records: &mut [u32],
     line: &mut [u8],
     input: &mut [u8],
     output: &mut [u8],
 ) {
-    let taken = take_all(desk, bands, nodes, marks, line, input, output);
-    let ended = end_line(taken, bands, nodes, marks, line, output);
-    flushed(ended, output);
+    let taken = take_all(desk, bands, nodes, marks, records, line, input, output);
+    end_all(taken, bands, nodes, marks, records, line, output);
 }
 
 // The whole life of a desk.
@@ -176,10 +222,11 @@ pub(crate) fn run(
     bands: &mut [u32],
     nodes: &mut [u32],
     marks: &mut [u32],
+    records: &mut [u32],
     line: &mut [u8],
     input: &mut [u8],
     output: &mut [u8],
 ) {
     let begun = begin(bands, nodes, marks, output);
-    do_all(begun, bands, nodes, marks, line, input, output);
+    do_all(begun, bands, nodes, marks, records, line, input, output);
 }

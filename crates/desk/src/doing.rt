@@ -1,5 +1,6 @@
 // A command done: on the desk's words, with its answer.
 use crate::calling;
+use crate::carding;
 use crate::lending;
 use crate::lending::Found;
 use crate::lending::Lent;
@@ -50,38 +51,37 @@ pub(crate) fn lend_for(
     )
 }
 
-fn lend(lent: Lent, lending: Lending, output: &mut [u8], written: usize) -> Desk {
+fn lend(desk: Desk, lending: Lending, output: &mut [u8], written: usize) -> Desk {
     match lending::find(lending) {
-        Found::Lent(found) => state::between_lines(found, desk_answers::tell_done(output, written)),
+        Found::Lent(found) => {
+            let told = desk_answers::tell_done(output, written);
+            state::between_lines(found, desk.card_end, told)
+        }
         Found::NoSuchMemory => {
-            state::between_lines(
-                lent,
-                desk_answers::tell_fault(output, written, Fault::NoSuchMemory),
-            )
+            desk.after_line(desk_answers::tell_fault(output, written, Fault::NoSuchMemory))
         }
     }
 }
 
 pub(crate) fn do_command(
+    desk: Desk,
     command: Command,
-    lent: Lent,
     bands: &mut [u32],
     nodes: &mut [u32],
     marks: &mut [u32],
+    records: &mut [u32],
     output: &mut [u8],
     written: usize,
 ) -> Desk {
     match command {
-        Command::Nothing => state::between_lines(lent, written),
-        Command::Wrong(fault) => state::between_lines(
-            lent,
-            desk_answers::tell_fault(output, written, fault),
-        ),
-        Command::Help => state::between_lines(lent, desk_answers::tell_help(output, written)),
-        Command::Lend(lending) => lend(lent, lending, output, written),
+        Command::Nothing => desk.after_line(written),
+        Command::Wrong(fault) => desk.after_line(desk_answers::tell_fault(output, written, fault)),
+        Command::Help => desk.after_line(desk_answers::tell_help(output, written)),
+        Command::Lend(lending) => lend(desk, lending, output, written),
         Command::Use(wanted) => {
-            let told = lend_for(wanted, lent, bands, nodes, marks, output, written);
-            state::between_lines(lent, told)
+            let lent = desk.lent;
+            desk.after_line(lend_for(wanted, lent, bands, nodes, marks, output, written))
         }
+        Command::Card(asked) => carding::do_card(desk, asked, records, output, written),
     }
 }

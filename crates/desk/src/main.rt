@@ -1,6 +1,7 @@
-// The desk: a console on the box. It lends one memory to the calls of `profile` and does no work of its own beyond reading words and writing answers
-// (docs/DESK.md).
+// The desk: a console on the box. It lends one memory to the calls of `profile` and one bench card to the scan of `card`, and does no work of its own
+// beyond reading words and writing answers (docs/DESK.md).
 mod calling;
+mod carding;
 mod console;
 mod doing;
 mod lending;
@@ -15,6 +16,7 @@ fn main() {
     let mut bands = [0u32; lending::BAND_STORE];
     let mut nodes = [0u32; lending::NODE_STORE];
     let mut marks = [0u32; lending::MARK_STORE];
+    let mut records = [0u32; carding::CARD_STORE];
     let mut line = [0u8; desk_lines::LINE_STORE];
     let mut input = [0u8; BUFFER];
     let mut output = [0u8; BUFFER];
@@ -22,6 +24,7 @@ fn main() {
         &mut bands,
         &mut nodes,
         &mut marks,
+        &mut records,
         &mut line,
         &mut input,
         &mut output,

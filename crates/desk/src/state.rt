@@ -1,17 +1,30 @@
 // What the desk knows between bytes.
 use crate::lending::Lent;
 
-// The words lent, how long the line is so far, and how many bytes of answers the buffer holds.
 pub struct Desk {
+    // The words lent.
     pub lent: Lent,
+    // How many words of the bench card hold records: counted in words, for no product has then to be shown to fit.
+    pub card_end: usize,
+    // How long the line is so far.
     pub line_length: usize,
+    // How many bytes of answers the buffer holds.
     pub written: usize,
 }
 
+impl Desk {
+    // The desk after a line that has changed neither what is lent nor the card.
+    pub(crate) fn after_line(self, written: usize) -> Desk {
+        let lent = self.lent;
+        between_lines(lent, self.card_end, written)
+    }
+}
+
 // The desk between two lines.
-pub(crate) fn between_lines(lent: Lent, written: usize) -> Desk {
+pub(crate) fn between_lines(lent: Lent, card_end: usize, written: usize) -> Desk {
     Desk {
         lent,
+        card_end,
         line_length: 0,
         written,
     }

@@ -1,6 +1,7 @@
 // The answers of the calls, a line each: the values where the call is done, else the refusal.
 use crate::refusals;
 use crate::writing;
+use card::Scan;
 use hall::Answer;
 use hall::Key;
 use hall::Next;
@@ -67,6 +68,24 @@ pub fn tell_stab(output: &mut [u8], written: usize, read: StabRead) -> usize {
     let after_met = put_value(output, after_count, b" met ", read.met);
     let after_looks = put_value(output, after_met, b" looks ", read.looks);
     put_bands(output, after_looks, &flags)
+}
+
+// The number and the place stand before values and words alike.
+fn begin_scan(output: &mut [u8], written: usize, answer: Answer, place: usize) -> usize {
+    let numbered = writing::put_number(output, written, answer.number());
+    let spaced = writing::put(output, numbered, b" place ");
+    writing::put_place(output, spaced, place)
+}
+
+pub fn tell_scan(output: &mut [u8], written: usize, read: Scan) -> usize {
+    let answer = read.answer;
+    let flags = read.flags;
+    let begun = begin_scan(output, written, answer, read.place);
+    if let Answer::Refused(refusal) = answer {
+        return refusals::end_with_words(output, begun, refusal);
+    }
+    let counted = put_value(output, begun, b" count ", read.count);
+    put_bands(output, counted, &flags)
 }
 
 // The ends as numbers, with a square bracket at a closed end and a round one at an open end.

@@ -18,6 +18,7 @@ fn put_words(output: &mut [u8], written: usize, fault: Fault) -> usize {
         Fault::TooManyWords => put(output, written, b"too many words"),
         Fault::NoSuchMemory => put(output, written, b"no such memory"),
         Fault::NoSuchWord => put(output, written, b"no such word"),
+        Fault::CardFull => put(output, written, b"card full"),
     }
 }
 

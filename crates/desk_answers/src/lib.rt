@@ -13,5 +13,6 @@ pub use answers::tell_help;
 pub use answers::tell_node;
 pub use answers::tell_number;
 pub use answers::tell_room;
+pub use answers::tell_scan;
 pub use answers::tell_stab;
 pub use faults::tell_fault;

@@ -37,10 +37,15 @@ fn put_words(output: &mut [u8], written: usize, refusal: Refusal) -> usize {
     }
 }
 
+// The last part of a refusal: its words, and the line's end.
+pub(crate) fn end_with_words(output: &mut [u8], written: usize, refusal: Refusal) -> usize {
+    let spaced = put(output, written, b" ");
+    let told = put_words(output, spaced, refusal);
+    put(output, told, b"\n")
+}
+
 // The number, and the words behind it.
 pub(crate) fn tell(output: &mut [u8], written: usize, refusal: Refusal) -> usize {
     let numbered = writing::put_number(output, written, refusal.number());
-    let spaced = put(output, numbered, b" ");
-    let told = put_words(output, spaced, refusal);
-    put(output, told, b"\n")
+    end_with_words(output, numbered, refusal)
 }

@@ -20,10 +20,18 @@ pub(crate) fn put(output: &mut [u8], written: usize, text: &[u8]) -> usize {
     at
 }
 
-pub(crate) fn put_number(output: &mut [u8], written: usize, number: u32) -> usize {
+fn put_digits(output: &mut [u8], written: usize, number: u64) -> usize {
     let mut digits = [0u8; 20];
-    let count = io::decimal(number as u64, &mut digits);
+    let count = io::decimal(number, &mut digits);
     put(output, written, &digits[..count])
+}
+
+pub(crate) fn put_number(output: &mut [u8], written: usize, number: u32) -> usize {
+    put_digits(output, written, number as u64)
+}
+
+pub(crate) fn put_place(output: &mut [u8], written: usize, place: usize) -> usize {
+    put_digits(output, written, place as u64)
 }
 
 // The number with a blank before it, if its flag is set.

@@ -46,6 +46,13 @@ pub enum Question {
     Room,
 }
 
+// The bench card: a list of records of the desk's own.
+pub enum Card {
+    Clear,
+    Add(Band),
+    Scan(Key),
+}
+
 // What is done with the lent words.
 pub enum Use {
     Words(Poking),
@@ -60,4 +67,5 @@ pub enum Command {
     Help,
     Lend(Lending),
     Use(Use),
+    Card(Card),
 }

@@ -14,6 +14,7 @@ pub enum Fault {
     TooManyWords,
     NoSuchMemory,
     NoSuchWord,
+    CardFull,
 }
 
 // The fault of what stands further left, if there is one.

@@ -1,6 +1,9 @@
 // The desk's lines: from bytes to the command that they say, or to what is wrong with them. A line is all that is seen here.
+mod bands;
+mod carding;
 mod commands;
 mod faults;
+mod judging;
 mod keys;
 mod numbers;
 mod reading;
@@ -8,6 +11,7 @@ mod slices;
 mod stretches;
 mod words;
 
+pub use commands::Card;
 pub use commands::Change;
 pub use commands::Command;
 pub use commands::Lending;

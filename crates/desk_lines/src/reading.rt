@@ -1,4 +1,6 @@
 // From a line to the command that it says. It sees the line alone.
+use crate::bands;
+use crate::carding;
 use crate::commands::Change;
 use crate::commands::Command;
 use crate::commands::Lending;
@@ -6,47 +8,24 @@ use crate::commands::Poking;
 use crate::commands::Question;
 use crate::commands::Use;
 use crate::faults::Fault;
+use crate::judging::alone;
+use crate::judging::unless;
+use crate::judging::words_past;
 use crate::keys;
 use crate::numbers;
 use crate::slices;
-use crate::stretches;
 use crate::words;
-use hall::Band;
 
 // The commands' names, as `help` tells them. `read_named` goes by a name's place among them.
-pub const NAMES: [u8; 89] =
-    *b"memory lengths fill poke peek sum empty insert remove stab check band edge node room help";
+pub const NAMES: [u8; 94] =
+    *b"memory lengths fill poke peek sum empty insert remove stab check band edge node room card help";
 
-const COMMANDS: usize = 16;
+const COMMANDS: usize = 17;
 
 // The longest line, and how many bytes are to be kept of one: the longest line and a carriage return.
 const LONGEST_LINE: usize = 200;
 
 pub const LINE_STORE: usize = LONGEST_LINE + 1;
-
-// The command, if nothing is wrong with its words.
-fn unless(fault: Fault, command: Command) -> Command {
-    if let Fault::None = fault {
-        command
-    } else {
-        Command::Wrong(fault)
-    }
-}
-
-// What is wrong where a line has a word more than so many.
-fn words_past(line: &[u8], count: usize) -> Fault {
-    let past = words::word(line, count);
-    if past.len() == 0 {
-        Fault::None
-    } else {
-        Fault::TooManyWords
-    }
-}
-
-// A command that takes no word.
-fn alone(line: &[u8], command: Command) -> Command {
-    unless(words_past(line, 1), command)
-}
 
 fn memory(line: &[u8]) -> Command {
     let nodes = numbers::number_at(line, 1);
@@ -99,23 +78,12 @@ fn peek(line: &[u8]) -> Command {
 }
 
 fn insert(line: &[u8]) -> Command {
-    let number = numbers::number_at(line, 1);
-    let scope = numbers::number_at(line, 2);
-    let stretch = stretches::stretch_at(line, 3);
+    let read = bands::band_in(line);
     let low_level = numbers::number_at(line, 4);
     let high_level = numbers::number_at(line, 5);
     let level_fault = low_level.fault_or(high_level.fault_or(words_past(line, 6)));
-    let fault = number.fault_or(scope.fault_or(stretch.fault_or(level_fault)));
-    let low = stretch.low;
-    let high = stretch.high;
-    let band = Band {
-        number: number.number,
-        scope: scope.number,
-        low,
-        high,
-        low_closed: stretch.low_closed,
-        high_closed: stretch.high_closed,
-    };
+    let fault = read.fault_or(level_fault);
+    let band = read.band;
     unless(
         fault,
         Command::Use(Use::Change(Change::Insert(band, low_level.number, high_level.number))),
@@ -192,7 +160,8 @@ fn read_named(place: usize, line: &[u8]) -> Command {
         12 => edge(line),
         13 => node(line),
         14 => alone(line, Command::Use(Use::Ask(Question::Room))),
-        15 => alone(line, Command::Help),
+        15 => carding::card(line),
+        16 => alone(line, Command::Help),
         _ => Command::Wrong(Fault::NoSuchCommand),
     }
 }

@@ -65,6 +65,12 @@ pub(crate) fn word(line: &[u8], place: usize) -> &[u8] {
     part(line, start, end)
 }
 
+// What stands behind the line's first word.
+pub(crate) fn behind_first(line: &[u8]) -> &[u8] {
+    let start = next_place(line, 0, false);
+    part(line, next_place(line, start, true), line.len())
+}
+
 // Whether a word is this one, byte for byte.
 pub(crate) fn is(word: &[u8], name: &[u8]) -> bool {
     if word.len() != name.len() {

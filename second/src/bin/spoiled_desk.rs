@@ -34,6 +34,10 @@ const ERRORS: &[(&str, Spoil)] = &[
     ("remove-not-refused-by-12", remove_not_refused_by_12),
     ("sum-off-after-remove", sum_off_after_remove),
     ("check-always-yes", check_always_yes),
+    ("card-places-from-zero", card_places_from_zero),
+    ("card-tells-the-earlier", card_tells_the_earlier),
+    ("card-goes-with-empty", card_goes_with_empty),
+    ("card-takes-one-too-many", card_takes_one_too_many),
     ("last-answer-lost", last_answer_lost),
     ("too-long-as-no-such-command", too_long_as_no_such_command),
     ("answers-kept-back", answers_kept_back),
@@ -66,6 +70,10 @@ struct Seen {
     poked_free: BTreeSet<u32>,
     /// The level that was given last for each key.
     levels: BTreeMap<u32, u32>,
+    /// The numbers of the records on the bench card.
+    card: Vec<Option<u32>>,
+    /// Whether the memory was emptied since the card was last changed.
+    emptied_under_the_card: bool,
     /// Answers that are not written before the end.
     kept_back: String,
 }
@@ -206,8 +214,10 @@ impl Seen {
                 self.open_ends.clear();
                 self.levels.clear();
                 self.poked_free.clear();
+                self.emptied_under_the_card = true;
             }
             "poke" => self.see_poke(asked),
+            "card" => self.see_card(asked),
             _ => {}
         }
     }
@@ -222,6 +232,15 @@ impl Seen {
             if word == 0 {
                 self.poked_free.insert(index / 8);
             }
+        }
+    }
+
+    /// A card that is cleared, or has one record more: a scan is answered otherwise.
+    fn see_card(&mut self, asked: &Asked) {
+        self.emptied_under_the_card = false;
+        match asked.word(1) {
+            "clear" => self.card.clear(),
+            _ => self.card.push(asked.number(2)),
         }
     }
 
@@ -418,6 +437,51 @@ fn check_always_yes(asked: &Asked, answer: String, _: &mut Seen) -> Option<Strin
     } else {
         answer
     })
+}
+
+/// The number and the place that a scan of the card is refused by, and what comes after.
+fn bad_card<'a>(asked: &Asked, answer: &'a str) -> Option<(&'a str, usize, &'a str)> {
+    let (number, rest) = answer.split_once(" place ")?;
+    let (place, words) = rest.split_once(' ')?;
+    let is_bad = asked.word(1) == "scan" && number != "0";
+    is_bad.then_some((number, place.parse().ok()?, words))
+}
+
+/// Places on the card are counted from 0.
+fn card_places_from_zero(asked: &Asked, answer: String, _: &mut Seen) -> Option<String> {
+    Some(match bad_card(asked, &answer) {
+        Some((number, place @ 1.., words)) => format!("{number} place {} {words}", place - 1),
+        _ => answer,
+    })
+}
+
+/// Of two records with one number the earlier is told.
+fn card_tells_the_earlier(asked: &Asked, answer: String, seen: &mut Seen) -> Option<String> {
+    let earlier = |later: usize| {
+        let number = seen.card.get(later - 1)?;
+        let place = seen.card.iter().position(|other| other == number)?;
+        Some(place + 1)
+    };
+    Some(match bad_card(asked, &answer) {
+        Some(("8", place @ 1.., words)) => {
+            format!("8 place {} {words}", earlier(place).unwrap_or(place))
+        }
+        _ => answer,
+    })
+}
+
+/// The card is taken for a part of the memory that is emptied.
+fn card_goes_with_empty(asked: &Asked, answer: String, seen: &mut Seen) -> Option<String> {
+    let is_right = asked.word(1) == "scan" && answer.starts_with("0 place 0 ");
+    Some(if is_right && seen.emptied_under_the_card {
+        "0 place 0 count 0 bands".to_string()
+    } else {
+        answer
+    })
+}
+
+fn card_takes_one_too_many(_: &Asked, answer: String, _: &mut Seen) -> Option<String> {
+    Some(answer.replace("? card full", "0"))
 }
 
 /// The input's end is not taken for a line's end.

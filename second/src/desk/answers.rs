@@ -2,6 +2,7 @@
 
 use super::spelling::plain_stretch;
 use crate::band::Band;
+use crate::card::{BadCard, CardAnswer};
 use crate::flags::Flags;
 use crate::profile::{EdgeReadout, NodeReadout, RoomReadout, Stab};
 use crate::refusals::Refusal;
@@ -12,9 +13,11 @@ pub const DONE: &str = "0";
 pub const NO_SUCH_MEMORY: &str = "? no such memory";
 /// The answer to a word outside the lent slice.
 pub const NO_SUCH_WORD: &str = "? no such word";
-/// The answer to `help`: the names in the order of the table of commands.
+/// The answer to a record that the bench card has no place for.
+pub const CARD_FULL: &str = "? card full";
+/// The answer to `help`: the first words of the commands, in the order of their table.
 pub const HELP: &str = "0 memory lengths fill poke peek sum empty insert remove stab check \
-                        band edge node room help";
+                        band edge node room card help";
 
 /// The words of refusals 1 to 13.
 const REFUSALS: [&str; 13] = [
@@ -35,7 +38,12 @@ const REFUSALS: [&str; 13] = [
 
 /// A refusal by its number and its words.
 pub fn refused(refusal: Refusal) -> String {
-    format!("{refusal} {}", REFUSALS[usize::from(refusal) - 1])
+    format!("{refusal} {}", words_of(refusal))
+}
+
+/// The words of a refusal alone.
+fn words_of(refusal: Refusal) -> &'static str {
+    REFUSALS[usize::from(refusal) - 1]
 }
 
 /// The answer of `check`.
@@ -86,6 +94,17 @@ pub fn room(room: &RoomReadout) -> String {
     format!("0 nodes {} marks {}", room.nodes, room.marks)
 }
 
+/// The answer of a scan of the bench card in which nothing is bad.
+pub fn scan(answer: &CardAnswer) -> String {
+    format!("0 place 0 count {} {}", answer.count, bands(&answer.flags))
+}
+
+/// The answer of a scan of a card that is refused, or of its key.
+pub fn bad_card(bad: BadCard) -> String {
+    let BadCard { refusal, place } = bad;
+    format!("{refusal} place {place} {}", words_of(refusal))
+}
+
 /// The word `bands` and the numbers whose flags are set, rising.
 fn bands(flags: &Flags) -> String {
     let mut words = vec!["bands".to_string()];
@@ -132,6 +151,8 @@ mod tests {
         for command in first_codes("Commands") {
             expected.extend(command.split(' ').next().map(str::to_string));
         }
+        // The commands of the card begin with one word and follow each other.
+        expected.dedup();
         let ours: Vec<&str> = HELP.split(' ').collect();
         assert_eq!(ours, expected);
     }
@@ -141,5 +162,6 @@ mod tests {
         let wrong = first_codes("What is wrong with a line");
         assert!(wrong.contains(&NO_SUCH_MEMORY.to_string()));
         assert!(wrong.contains(&NO_SUCH_WORD.to_string()));
+        assert!(wrong.contains(&CARD_FULL.to_string()));
     }
 }

@@ -99,6 +99,18 @@ pub enum Command {
     },
     /// Nodes and marks in use.
     Room,
+    /// Leave the bench card without a record.
+    CardClear,
+    /// Give the bench card one record more, right or wrong.
+    CardAdd {
+        /// The record.
+        record: Band,
+    },
+    /// Which records of the bench card hold the key.
+    CardScan {
+        /// The key.
+        key: u32,
+    },
     /// The names of the commands.
     Help,
 }

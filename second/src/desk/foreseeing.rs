@@ -12,15 +12,17 @@
 use super::answers;
 use super::command::{Command, Slice};
 use super::foreseen::Foreseen;
+use super::kept_card::KeptCard;
 use super::lending::Lending;
 use super::script::Line;
+use crate::band::Band;
 use crate::profile::Profile;
 use crate::refusals::{judge_key, judge_number, Refusal, WRONG_SIZES_OR_NOT_SOUND};
 use crate::sound_profile::SoundProfile;
 use crate::words::{laid, Words};
 use std::cell::OnceCell;
 
-/// The state of a desk: what it lends, and what that says.
+/// The state of a desk: what it lends, what that says, and the bench card it keeps.
 #[derive(Clone, Debug)]
 pub struct Foreseer {
     /// The words, as they were when they were last asked for or changed.
@@ -33,6 +35,8 @@ pub struct Foreseer {
     alike: OnceCell<Option<Profile>>,
     /// Whether the profile was changed since the words were laid.
     lagging: bool,
+    /// The bench card, which no other command knows of.
+    card: KeptCard,
 }
 
 impl Default for Foreseer {
@@ -49,6 +53,7 @@ impl Foreseer {
             said: OnceCell::new(),
             alike: OnceCell::new(),
             lagging: false,
+            card: KeptCard::default(),
         };
         fresh.lending.lend_rooms(2_048, 16_384);
         fresh.empty();
@@ -89,6 +94,9 @@ impl Foreseer {
             Command::Edge { key, lane } => self.edge(key, lane),
             Command::Node { key } => self.node(key),
             Command::Room => self.room(),
+            Command::CardClear => self.clear_card(),
+            Command::CardAdd { record } => self.add_to_card(record),
+            Command::CardScan { key } => self.scan_card(key),
             Command::Help => exactly(answers::HELP),
         }
     }
@@ -108,6 +116,11 @@ impl Foreseer {
         let look = || self.lending.words().alike();
         self.profile()
             .or_else(|| self.alike.get_or_init(look).as_ref())
+    }
+
+    /// The records on the bench card.
+    pub fn card(&self) -> &[Band] {
+        self.card.records()
     }
 
     /// The lent words.
@@ -228,6 +241,26 @@ impl Foreseer {
         self.read_out(self.profile(), Ok(()), &["0"], |profile| {
             profile.room().map(|room| answers::room(&room))
         })
+    }
+
+    fn clear_card(&mut self) -> Foreseen {
+        self.card.clear();
+        exactly(answers::DONE)
+    }
+
+    fn add_to_card(&mut self, record: Band) -> Foreseen {
+        if self.card.add(record) {
+            exactly(answers::DONE)
+        } else {
+            exactly(answers::CARD_FULL)
+        }
+    }
+
+    fn scan_card(&self, key: u32) -> Foreseen {
+        match self.card.scan(key) {
+            Ok(answer) => exactly(answers::scan(&answer)),
+            Err(bad) => exactly(answers::bad_card(bad)),
+        }
     }
 
     /// A stab or a readout. Where there is no profile to tell it, it is refused by what can

@@ -5,6 +5,7 @@ pub mod answers;
 pub mod command;
 pub mod foreseeing;
 pub mod foreseen;
+pub mod kept_card;
 pub mod lending;
 pub mod script;
 pub mod spelling;

@@ -46,7 +46,7 @@ pub fn varied(command: &Command, dice: &mut Dice) -> Vec<u8> {
     line.into_bytes()
 }
 
-/// The word that a command begins with.
+/// The name of a command: the word that it begins with, or the two.
 pub fn name(command: &Command) -> &'static str {
     match command {
         Command::Memory { .. } => "memory",
@@ -64,6 +64,9 @@ pub fn name(command: &Command) -> &'static str {
         Command::Edge { .. } => "edge",
         Command::Node { .. } => "node",
         Command::Room => "room",
+        Command::CardClear => "card clear",
+        Command::CardAdd { .. } => "card add",
+        Command::CardScan { .. } => "card scan",
         Command::Help => "help",
     }
 }
@@ -79,14 +82,14 @@ fn slice_name(slice: Slice) -> &'static str {
 
 /// All words of a command, in order.
 fn words_of(command: &Command) -> Vec<Word> {
-    let mut words = vec![Word::Name(name(command))];
+    let mut words: Vec<Word> = name(command).split(' ').map(Word::Name).collect();
     words.extend(arguments_of(command));
     words
 }
 
 /// The words after a command's name.
 fn arguments_of(command: &Command) -> Vec<Word> {
-    use Word::{Key, Name, Number, Stretch};
+    use Word::{Key, Name, Number};
     match *command {
         Command::Memory { nodes, marks } => vec![Number(nodes), Number(marks)],
         Command::Lengths {
@@ -104,16 +107,30 @@ fn arguments_of(command: &Command) -> Vec<Word> {
             low_level,
             high_level,
         } => {
-            let (number, scope) = (Number(band.number), Number(band.scope));
-            let levels = [Number(low_level), Number(high_level)];
-            vec![number, scope, Stretch(band), levels[0], levels[1]]
+            let mut words = band_words(band);
+            words.extend([Number(low_level), Number(high_level)]);
+            words
         }
         Command::Remove { number, scope } => vec![Number(number), Number(scope)],
-        Command::Stab { key } | Command::Node { key } => vec![Key(key)],
+        Command::Stab { key } | Command::Node { key } | Command::CardScan { key } => {
+            vec![Key(key)]
+        }
         Command::Band { number } => vec![Number(number)],
         Command::Edge { key, lane } => vec![Key(key), Number(lane)],
-        Command::Sum | Command::Empty | Command::Check | Command::Room | Command::Help => vec![],
+        Command::CardAdd { record } => band_words(record),
+        Command::Sum
+        | Command::Empty
+        | Command::Check
+        | Command::Room
+        | Command::CardClear
+        | Command::Help => vec![],
     }
+}
+
+/// Number, scope and stretch of a band.
+fn band_words(band: Band) -> Vec<Word> {
+    let (number, scope) = (Word::Number(band.number), Word::Number(band.scope));
+    vec![number, scope, Word::Stretch(band)]
 }
 
 /// A stretch from the writing of its two keys.

@@ -191,6 +191,8 @@ fn only_asks(line: &Line) -> bool {
                 | Command::Empty
                 | Command::Insert { .. }
                 | Command::Remove { .. }
+                | Command::CardClear
+                | Command::CardAdd { .. }
         ),
     }
 }

@@ -5,6 +5,7 @@ use std::time::Duration;
 
 pub mod account;
 pub mod arguments;
+pub mod card_sights;
 pub mod comparing;
 pub mod cutting;
 pub mod plan;

@@ -11,6 +11,7 @@ pub const SEEDS: &[(&str, u64)] = &[
     ("rooms_at_limits", 100),
     ("spoiled_words", 120),
     ("wrong_lengths", 80),
+    ("bench_card", 60),
     ("console", 120),
     ("lumps", 30),
 ];

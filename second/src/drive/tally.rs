@@ -2,6 +2,7 @@
 //!
 //! Only answers that the paper settles are counted, and only where they were as foreseen.
 
+use super::card_sights;
 use crate::desk::command::Command;
 use crate::desk::foreseeing::Foreseer;
 use crate::desk::foreseen::Foreseen;
@@ -48,7 +49,12 @@ const ANSWERS: &[(&str, &[&str])] = &[
     ("peek", &["0"]),
     ("sum", &["0"]),
     ("help", &["0"]),
+    ("card clear", &["0"]),
+    ("card add", &["0"]),
 ];
+
+/// The answers of this command are counted by the places of the card.
+const CARD_SCAN: &str = "card scan";
 
 /// What the desk can say is wrong with a line ("What is wrong with a line" in
 /// `docs/DESK.md`).
@@ -67,13 +73,38 @@ const WRONG_LINES: &[&str] = &[
     "no such word",
 ];
 
+/// What the desk can say is wrong with a line that begins with `card`. They are counted
+/// apart, since the word after `card` is judged before all others.
+const WRONG_LINES_OF_THE_CARD: &[&str] = &[
+    "no such command",
+    "word missing",
+    "not a number",
+    "number above 4294967295",
+    "not a key",
+    "no such key",
+    "not a stretch",
+    "too many words",
+    "card full",
+];
+
+/// The names that wrong lines are counted under.
+const WRONG: &str = "?";
+const WRONG_OF_THE_CARD: &str = "card ?";
+
 /// Everything that must be seen at least once, in the order it is printed in.
 pub fn expected() -> Vec<Sight> {
     let answers = ANSWERS
         .iter()
         .flat_map(|(name, answers)| answers.iter().map(|answer| (*name, answer.to_string())));
-    let wrong = WRONG_LINES.iter().map(|what| ("?", what.to_string()));
-    answers.chain(wrong).collect()
+    let scans = card_sights::expected().into_iter();
+    let wrong = WRONG_LINES.iter().map(|what| (WRONG, what.to_string()));
+    let of_the_card = WRONG_LINES_OF_THE_CARD.iter();
+    let of_the_card = of_the_card.map(|what| (WRONG_OF_THE_CARD, what.to_string()));
+    answers
+        .chain(scans.map(|sight| (CARD_SCAN, sight)))
+        .chain(wrong)
+        .chain(of_the_card)
+        .collect()
 }
 
 /// How often each answer was seen.
@@ -128,7 +159,7 @@ impl fmt::Display for Tally {
         let rows = expected().into_iter().chain(self.strange());
         for (name, answer) in rows {
             let times = self.times(&(name, answer.clone()));
-            writeln!(out, "{name:<8} {answer:<24} {times:>10}")?;
+            writeln!(out, "{name:<10} {answer:<24} {times:>10}")?;
         }
         Ok(())
     }
@@ -137,13 +168,28 @@ impl fmt::Display for Tally {
 /// What an answer shows, if it is one that is counted.
 fn sight(line: &Line, answer: &str, after: &Foreseer) -> Option<Sight> {
     if let Some(what) = answer.strip_prefix("? ") {
-        return Some(("?", what.to_string()));
+        return Some((name_of_wrong(line, what), what.to_string()));
     }
     let Line::Command { command, .. } = line else {
         return None;
     };
+    if let Command::CardScan { .. } = command {
+        return Some((CARD_SCAN, card_sights::sight(answer, after.card().len())));
+    }
     let first = answer.split(' ').next().unwrap_or_default();
     Some((name(command), kind_of(command, first, after).to_string()))
+}
+
+/// What a wrong line is counted under. Its length is judged before any word of it.
+fn name_of_wrong(line: &Line, what: &str) -> &'static str {
+    let text = line.text().strip_suffix(b"\r").unwrap_or(line.text());
+    let mut words = text.split(|byte| b" \t".contains(byte));
+    let is_the_cards = words.find(|word| !word.is_empty()) == Some(b"card");
+    if is_the_cards && what != "line too long" {
+        WRONG_OF_THE_CARD
+    } else {
+        WRONG
+    }
 }
 
 /// The first word of an answer, or its ground where one word has several. Calls that
@@ -281,6 +327,48 @@ mod tests {
     }
 
     #[test]
+    fn a_scan_is_counted_by_the_place_that_it_tells() {
+        let add = |number, written| Command::CardAdd {
+            record: house(number, written),
+        };
+        let scan = Command::CardScan { key: 5 };
+        assert_eq!(
+            seen(&[add(1, "[1,5]"), scan, add(1, "[1,5]"), scan]),
+            sights(&[
+                ("card add", "0"),
+                ("card scan", "0"),
+                ("card scan", "8 at the only place"),
+            ])
+        );
+        assert_eq!(
+            seen(&[add(1, "(1,2)"), add(2, "[1,5]"), scan, Command::CardClear]),
+            sights(&[
+                ("card add", "0"),
+                ("card scan", "5 at the first place"),
+                ("card clear", "0"),
+            ])
+        );
+    }
+
+    #[test]
+    fn wrong_lines_of_the_card_are_counted_apart() {
+        let name = |text: &str, what| {
+            let line = Line::Other {
+                text: text.as_bytes().to_vec(),
+                foreseen: Foreseen::Exactly(format!("? {what}")),
+            };
+            name_of_wrong(&line, what)
+        };
+        for text in ["card", " card\r", "\tcard\tx", "card add 1"] {
+            assert_eq!(name(text, "word missing"), "card ?", "{text:?}");
+        }
+        for text in ["cards", "card\r\r", "x card", "Card clear", "\rcard"] {
+            assert_eq!(name(text, "no such command"), "?", "{text:?}");
+        }
+        assert_eq!(name("card scan 0005", "line too long"), "?");
+    }
+
+    #[test]
     fn what_was_never_seen_is_missing_and_what_cannot_be_is_strange() {
         let mut tally = Tally::new();
         assert_eq!(tally.missing(), expected());
@@ -301,7 +389,9 @@ mod tests {
     fn every_ground_of_every_refusal_is_expected_once() {
         let mut expected = expected();
         let many = expected.len();
-        assert_eq!(many, 2 + 12 + 8 + 3 + 3 + 4 + 5 + 4 + 2 + 7 + 12);
+        let calls = 2 + 12 + 8 + 3 + 3 + 4 + 5 + 4 + 2;
+        let card = 2 + (2 + 6 * 4) + 9;
+        assert_eq!(many, calls + 7 + 12 + card);
         expected.sort();
         expected.dedup();
         assert_eq!(expected.len(), many);

@@ -1,5 +1,6 @@
 //! What is asked after a change: the sum of the words, and every readout there is.
 
+use super::drawing::Ground;
 use super::writing::{is_done, Writer};
 use crate::band::{Band, HIGHEST_BAND_NUMBER};
 use crate::desk::command::Command;
@@ -29,6 +30,19 @@ impl Writer {
             self.ask_beyond();
         }
         foreseen
+    }
+
+    /// A change in small rooms and a look at what stands; where a line has spoiled memory,
+    /// it is made anew. For lives that are about something else.
+    pub fn live_on(&mut self, ground: &Ground) {
+        if self.profile().is_none() {
+            self.begin(20, 100);
+        }
+        let change = self.drawn(|dice, profile| ground.change(dice, profile));
+        self.ask(change);
+        let key = self.dice.pick(&ground.ends);
+        self.look(Command::Stab { key });
+        self.look(Command::Sum);
     }
 
     /// The words and the room after a change, made or refused.

@@ -46,7 +46,7 @@ fn live(writer: &mut Writer, ground: &Ground, nodes: u32, marks: u32) {
 }
 
 /// A dozen keys side by side or far apart, with the scopes they allow.
-fn ground(dice: &mut Dice) -> Ground {
+pub(super) fn ground(dice: &mut Dice) -> Ground {
     let ends = match dice.below(5) {
         0 => side_by_side(0),
         1 => side_by_side(HIGHEST_KEY - 11),

@@ -54,7 +54,7 @@ fn draw(dice: &mut Dice, ground: &Ground, profile: Option<&Profile>) -> Command 
 }
 
 /// The keys at and near both borders of many machines, and house bands between any.
-fn ground(dice: &mut Dice) -> Ground {
+pub(super) fn ground(dice: &mut Dice) -> Ground {
     let mut machines: Vec<u32> = (0..MACHINES).collect();
     shuffle(dice, &mut machines);
     machines.truncate(8 + dice.below(57) as usize);

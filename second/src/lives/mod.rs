@@ -1,6 +1,7 @@
 //! The lives: scripts made from a seed, each kind for something that could go wrong.
 
 mod asking;
+mod bench_card;
 mod console;
 pub(crate) mod drawing;
 mod few_keys;
@@ -43,6 +44,7 @@ pub const KINDS: &[Kind] = &[
     rooms_at_limits::KIND,
     spoiled_words::KIND,
     wrong_lengths::KIND,
+    bench_card::KIND,
     console::KIND,
     lumps::KIND,
 ];

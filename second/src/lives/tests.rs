@@ -19,7 +19,7 @@ fn script(kind: &str, seed: u64) -> Script {
 
 /// Foresees a script line by line and shows each line, what is foreseen of it and the
 /// state after it.
-fn follow(script: &Script, mut show: impl FnMut(&Line, &Foreseen, &Foreseer)) {
+pub fn follow(script: &Script, mut show: impl FnMut(&Line, &Foreseen, &Foreseer)) {
     let mut foreseer = Foreseer::new();
     for line in &script.lines {
         let foreseen = foreseer.foresee(line);

@@ -1,5 +1,6 @@
 //! Writing a script line by line, foreseeing as it goes.
 
+use crate::band::Band;
 use crate::desk::command::Command;
 use crate::desk::foreseeing::Foreseer;
 use crate::desk::foreseen::Foreseen;
@@ -107,6 +108,16 @@ impl Writer {
     /// Something drawn by what now stands.
     pub fn drawn<T>(&mut self, draw: impl FnOnce(&mut Dice, Option<&Profile>) -> T) -> T {
         draw(&mut self.dice, self.foreseer.profile())
+    }
+
+    /// The records on the bench card.
+    pub fn card(&self) -> &[Band] {
+        self.foreseer.card()
+    }
+
+    /// Something drawn by what stands on the bench card.
+    pub fn drawn_by_card<T>(&mut self, draw: impl FnOnce(&mut Dice, &[Band]) -> T) -> T {
+        draw(&mut self.dice, self.foreseer.card())
     }
 
     /// The lent words.

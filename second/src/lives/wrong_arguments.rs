@@ -8,15 +8,18 @@ use crate::dice::Dice;
 use crate::hall::{HIGHEST_KEY, MACHINES};
 use crate::lanes::HIGHEST_LEVEL;
 
-const HIGH_SCOPES: [u32; 6] = [HOUSE + 1, HOUSE + 2, 256, 256 + HOUSE, 1 << 16, u32::MAX];
-const HIGH_NUMBERS: [u32; 5] = [
+/// Scopes that are neither a machine nor the house.
+pub const HIGH_SCOPES: [u32; 6] = [HOUSE + 1, HOUSE + 2, 256, 256 + HOUSE, 1 << 16, u32::MAX];
+/// Numbers that no band can have.
+pub const HIGH_NUMBERS: [u32; 5] = [
     HIGHEST_BAND_NUMBER + 1,
     HIGHEST_BAND_NUMBER + 2,
     1 << 16,
     1 << 31,
     u32::MAX,
 ];
-const HIGH_KEYS: [u32; 5] = [HIGHEST_KEY + 1, HIGHEST_KEY + 2, 1 << 24, 1 << 31, u32::MAX];
+/// Keys past the end of the hall line.
+pub const HIGH_KEYS: [u32; 5] = [HIGHEST_KEY + 1, HIGHEST_KEY + 2, 1 << 24, 1 << 31, u32::MAX];
 const NO_LEVELS: [u32; 6] = [0, HIGHEST_LEVEL + 1, 10, 256, 257, u32::MAX];
 
 /// The call with something wrong in it, or at times several things, of which the

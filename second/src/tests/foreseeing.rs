@@ -466,7 +466,7 @@ fn a_profile_poked_word_by_word_stands() {
 #[test]
 fn help_names_the_commands() {
     let names = "0 memory lengths fill poke peek sum empty insert remove stab check \
-                 band edge node room help";
+                 band edge node room card help";
     assert_answers(&mut Foreseer::new(), &[(Command::Help, names)]);
 }
 

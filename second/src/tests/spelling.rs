@@ -31,6 +31,7 @@ fn read(line: &[u8]) -> Option<Command> {
             low_level: read_number(low_level)?,
             high_level: read_number(high_level)?,
         },
+        ["card", ..] => read_card(&words[1..])?,
         ["stab", key] => Command::Stab {
             key: read_key(key)?,
         },
@@ -44,6 +45,20 @@ fn read(line: &[u8]) -> Option<Command> {
         [name, ..] => read_numbers(name, &words[1..])?,
         [] => return None,
     })
+}
+
+/// A command about the bench card, by what stands after its first word.
+fn read_card(words: &[&str]) -> Option<Command> {
+    match *words {
+        ["clear"] => Some(Command::CardClear),
+        ["add", number, scope, stretch] => Some(Command::CardAdd {
+            record: read_band(number, scope, stretch)?,
+        }),
+        ["scan", key] => Some(Command::CardScan {
+            key: read_key(key)?,
+        }),
+        _ => None,
+    }
 }
 
 /// A command that takes numbers alone.
@@ -105,7 +120,22 @@ fn read_band(number: &str, scope: &str, stretch: &str) -> Option<Band> {
 
 /// Every command, with its plain writing.
 fn written_by_hand() -> Vec<(&'static str, Command)> {
-    [words_by_hand(), calls_by_hand()].concat()
+    [words_by_hand(), calls_by_hand(), card_by_hand()].concat()
+}
+
+/// The commands about the bench card.
+fn card_by_hand() -> Vec<(&'static str, Command)> {
+    let right = band(1, 0, "[100,400)");
+    let wrong = band(1_024, 65, "(2097152,4294967295]");
+    vec![
+        ("card clear", Command::CardClear),
+        ("card add 1 0 [100,400)", Command::CardAdd { record: right }),
+        (
+            "card add 1024 65 (2097152,4294967295]",
+            Command::CardAdd { record: wrong },
+        ),
+        ("card scan 68613", Command::CardScan { key: 68_613 }),
+    ]
 }
 
 /// The commands about words.
@@ -218,6 +248,18 @@ fn every_liberty_is_taken() {
     assert!(some(|line| line.len() == 200 && !line.ends_with('\r')));
     assert!(some(|line| line.len() == 201 && line.ends_with('\r')));
     assert!(some(|line| line == "insert 12 2 [68613,68700) 3 4"));
+}
+
+#[test]
+fn the_two_words_of_a_name_stand_apart_in_every_way() {
+    let mut dice = Dice::seeded(8);
+    let writings = (0..200).map(|_| varied(&Command::CardClear, &mut dice));
+    let lines: Vec<String> = writings
+        .filter_map(|line| String::from_utf8(line).ok())
+        .collect();
+    for name in ["card clear", "card\tclear", "card  clear", "card \tclear"] {
+        assert!(lines.iter().any(|line| line.contains(name)), "{name:?}");
+    }
 }
 
 #[test]

@@ -3,14 +3,17 @@
 use second::drive::Desk;
 use std::path::PathBuf;
 
-/// The desk of the environment, or the one that `bin/desk` builds.
+/// The desk of the environment, or the one that `bin/desk` builds and `bin/built-desk` runs.
 pub fn real_desk() -> String {
-    let usual = PathBuf::from(env!("CARGO_MANIFEST_DIR")).join("../target/bin/desk");
-    let path = std::env::var_os("DESK").map_or(usual, PathBuf::from);
+    let root = PathBuf::from(env!("CARGO_MANIFEST_DIR")).join("..");
+    let (program, path) = match std::env::var_os("DESK") {
+        Some(named) => (PathBuf::from(&named), PathBuf::from(named)),
+        None => (root.join("target/bin/desk"), root.join("bin/built-desk")),
+    };
     assert!(
-        path.is_file(),
+        program.is_file(),
         "There is no desk at {}. Run bin/desk, which builds it, or name another as DESK in the environment.",
-        path.display()
+        program.display()
     );
     path.display().to_string()
 }

@@ -41,6 +41,8 @@ fn endings(dice: &mut Dice) -> Vec<Line> {
         told(*b"check\r\r", "? no such command"),
         told(*b"stab", "? word missing"),
         told(*b"stab 5\r\r", "? not a key"),
+        told(*b"card", "? word missing"),
+        told(*b"card clea", "? no such command"),
     ];
     for length in [200, 201] {
         for returns in [false, true] {

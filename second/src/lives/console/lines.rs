@@ -30,8 +30,8 @@ const UNANSWERED: [&[u8]; 16] = [
     b"#\r\r# carriage returns\r",
 ];
 
-/// Lines whose first word names no command.
-const NO_COMMANDS: [&[u8]; 44] = [
+/// Lines whose first word names no command, or whose word after `card` names none.
+const NO_COMMANDS: [&[u8]; 58] = [
     b"Check",
     b"CHECK",
     b"checK",
@@ -60,10 +60,24 @@ const NO_COMMANDS: [&[u8]; 44] = [
     b"insert[1,2]",
     b"Memory 5 5",
     b"yes",
-    b"card",
-    b"card clear",
-    b"card add 1 64 [1,2]",
-    b"card scan 5",
+    b"clear",
+    b"add 1 64 [1,2]",
+    b"scan 5",
+    b"cards clear",
+    b"Card clear",
+    b"card:clear",
+    b"cardclear",
+    b"card Clear",
+    b"card clea",
+    b"card cleared",
+    b"card adds 1 64 [1,2]",
+    b"card scan:5",
+    b"card 5",
+    b"card # a remark",
+    b"card card clear",
+    b"card xyz 1 64 [1,2] 1 1",
+    b"card \r\r",
+    b"card scan\r 5",
     b"helped me x y z",
     b"\r\r",
     b"\rcheck",
@@ -78,8 +92,8 @@ const NO_COMMANDS: [&[u8]; 44] = [
     b"\x0bcheck\x0c",
 ];
 
-/// Carriage returns, and bytes that are no blanks, where a word stands.
-const OTHERS: [(&[u8], &str); 12] = [
+/// Carriage returns, and bytes that are no blanks, where a word stands or is missing.
+const OTHERS: [(&[u8], &str); 18] = [
     (b"check \r\r", "? too many words"),
     (b"check \r ", "? too many words"),
     (b"sum\t\xff", "? too many words"),
@@ -92,6 +106,12 @@ const OTHERS: [(&[u8], &str); 12] = [
     (b"peek bands\r 5", "? not a slice"),
     (b"stab 5\xc2\xa06", "? not a key"),
     (b"stab", "? word missing"),
+    (b"card", "? word missing"),
+    (b"\tcard \t ", "? word missing"),
+    (b"card\r", "? word missing"),
+    (b"card clear \0", "? too many words"),
+    (b"card scan 5\r\r", "? not a key"),
+    (b"card add 1 64 [1,2]\r\r", "? not a stretch"),
 ];
 
 /// Every such line. Very long ones would take too long byte by byte.

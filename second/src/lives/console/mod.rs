@@ -53,26 +53,31 @@ fn write_all(writer: &mut Writer) {
     for line in lines {
         writer.add(line);
         if writer.dice.one_in(8) {
-            live_on(writer, &ground);
+            writer.live_on(&ground);
+        }
+        if writer.dice.one_in(8) {
+            use_the_card(writer, &ground);
         }
     }
     writer.ask_what_stands();
 }
 
-/// A change and a look at what stands; where a line has spoiled memory, it is made anew.
-fn live_on(writer: &mut Writer, ground: &Ground) {
-    if writer.profile().is_none() {
-        writer.begin(20, 100);
-    }
-    let change = writer.drawn(|dice, profile| ground.change(dice, profile));
+/// The bench card is added to or cleared and then scanned, so that a wrong line that
+/// changes it is seen.
+fn use_the_card(writer: &mut Writer, ground: &Ground) {
+    let record = writer.drawn(|dice, profile| ground.band(dice, profile));
+    let change = if writer.dice.one_in(3) {
+        Command::CardClear
+    } else {
+        Command::CardAdd { record }
+    };
     writer.ask(change);
     let key = writer.dice.pick(&ground.ends);
-    writer.look(Command::Stab { key });
-    writer.look(Command::Sum);
+    writer.look(Command::CardScan { key });
 }
 
 /// A line that is answered so, and changes nothing.
-fn told(text: impl Into<Vec<u8>>, answer: &str) -> Line {
+pub(super) fn told(text: impl Into<Vec<u8>>, answer: &str) -> Line {
     Line::Other {
         text: text.into(),
         foreseen: Foreseen::Exactly(answer.to_string()),

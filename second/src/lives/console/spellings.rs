@@ -51,6 +51,7 @@ fn keys() -> Vec<Line> {
                 written(&format!("node {text}"), Command::Node { key }),
                 written(&format!("edge {text} 0"), Command::Edge { key, lane: 0 }),
                 written(&format!("edge {text} 007"), Command::Edge { key, lane: 7 }),
+                written(&format!("card scan {text}"), Command::CardScan { key }),
             ]
         })
         .collect()
@@ -74,7 +75,7 @@ fn stretches() -> Vec<Line> {
     ];
     stretches
         .into_iter()
-        .map(|(text, low, high, low_closed, high_closed)| {
+        .flat_map(|(text, low, high, low_closed, high_closed)| {
             let band = Band {
                 number: 700,
                 scope: 64,
@@ -88,7 +89,11 @@ fn stretches() -> Vec<Line> {
                 low_level: 1,
                 high_level: 8,
             };
-            written(&format!("insert 700 64 {text} 1 8"), insert)
+            let add = Command::CardAdd { record: band };
+            [
+                written(&format!("insert 700 64 {text} 1 8"), insert),
+                written(&format!("card add 700 64 {text}"), add),
+            ]
         })
         .collect()
 }
@@ -114,6 +119,8 @@ fn highest_numbers_of_calls() -> Vec<Line> {
         most("insert M M (M,M) M M", insert),
         most("remove M M", remove),
         most("band M", Command::Band { number }),
+        most("card add M M (M,M)", Command::CardAdd { record: band }),
+        most("card scan M", Command::CardScan { key: MOST }),
     ]
 }
 
@@ -165,6 +172,11 @@ fn blanks() -> Vec<Line> {
         written("\thelp ", Command::Help),
         written("remove\t700\t64", remove),
         written("remove  700 \t 0064\r", remove),
+        written("card clear", Command::CardClear),
+        written("card\tclear", Command::CardClear),
+        written(" card  \t clear \r", Command::CardClear),
+        written("\tcard\tscan\t5\r", Command::CardScan { key: 5 }),
+        written("card   scan 0:0:5 ", Command::CardScan { key: 5 }),
         written("sum ", Command::Sum),
         written(" empty", Command::Empty),
         written(

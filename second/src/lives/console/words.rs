@@ -12,8 +12,8 @@ use crate::desk::spelling::LONGEST_LINE;
 use crate::dice::Dice;
 use Sort::{Key, Number, Slice, Stretch};
 
-/// Every command and what it takes.
-const COMMANDS: [(&str, &[Sort]); 16] = [
+/// Every command and what it takes after its name.
+const COMMANDS: [(&str, &[Sort]); 19] = [
     ("memory", &[Number, Number]),
     ("lengths", &[Number, Number, Number]),
     ("fill", &[Number]),
@@ -29,6 +29,9 @@ const COMMANDS: [(&str, &[Sort]); 16] = [
     ("edge", &[Key, Number]),
     ("node", &[Key]),
     ("room", &[]),
+    ("card clear", &[]),
+    ("card add", &[Number, Number, Stretch]),
+    ("card scan", &[Key]),
     ("help", &[]),
 ];
 
@@ -36,7 +39,7 @@ const MISSING: &str = "? word missing";
 const TOO_MANY: &str = "? too many words";
 
 /// Lines that are wrong in two ways, in every script whatever the dice are.
-const WRONG_TWICE: [(&str, &str); 20] = [
+const WRONG_TWICE: [(&str, &str); 29] = [
     ("memory 4294967296", TOO_HIGH),
     ("memory x", NOT_A_NUMBER),
     ("memory 9999", MISSING),
@@ -57,6 +60,15 @@ const WRONG_TWICE: [(&str, &str); 20] = [
     ("edge x 4294967296 1", NOT_A_KEY),
     ("edge 5 4294967296 1", TOO_HIGH),
     ("stab 0:0:4294967296 x", NO_SUCH_KEY),
+    ("card clear 5 x", TOO_MANY),
+    ("card add x", NOT_A_NUMBER),
+    ("card add 4294967296", TOO_HIGH),
+    ("card add 1 [1,2]", NOT_A_NUMBER),
+    ("card add 1 x [100", NOT_A_NUMBER),
+    ("card add 1 64 [100, 400]", NOT_A_STRETCH),
+    ("card add 1 64 [64:0:0,x] 1", NO_SUCH_KEY),
+    ("card add 1 64 [1,2] 1 1", TOO_MANY),
+    ("card scan 64:0:0 x", NO_SUCH_KEY),
 ];
 
 /// Lines with words wrong, missing and too many, for every command.

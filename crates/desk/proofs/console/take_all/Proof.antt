@@ -7,16 +7,17 @@ use Rattle.desk.proofs.console.take_all.Statement.{statement}
 use Rattle.desk.proofs.console.take_all.Tie as tie
 
 abbrev Inv-loop : tie.InvT-loop
-Inv-loop bands₀ nodes₀ marks₀ line₀ input₀ output₀ now₀ turns₀ bands nodes marks line input output now turns =
+Inv-loop bands₀ nodes₀ marks₀ records₀ line₀ input₀ output₀ now₀ turns₀ bands nodes marks records line input output now turns =
     (length bands ≡ length bands₀)
     × (length nodes ≡ length nodes₀)
     × (length marks ≡ length marks₀)
+    × (length records ≡ length records₀)
     × (length line ≡ length line₀)
     × (length input ≡ length input₀)
     × (length output ≡ length output₀)
 
 abbrev μ-loop : tie.MeasureT-loop
-μ-loop bands₀ nodes₀ marks₀ line₀ input₀ output₀ now₀ turns₀ bands nodes marks line input output now turns =
+μ-loop bands₀ nodes₀ marks₀ records₀ line₀ input₀ output₀ now₀ turns₀ bands nodes marks records line input output now turns =
     turns
 
 loop-holds : tie.Need-loop-holds Inv-loop μ-loop
@@ -43,6 +44,9 @@ same-length-5 c = search needs
 same-length-6 : tie.Need-same-length-6 Inv-loop μ-loop
 same-length-6 c = search needs
 
+same-length-7 : tie.Need-same-length-7 Inv-loop μ-loop
+same-length-7 c = search needs
+
 returns : tie.Need-returns Inv-loop μ-loop
 returns c = search needs
 
@@ -54,9 +58,6 @@ loop-less c = search needs
 
 loop-again : tie.Need-loop-again Inv-loop μ-loop
 loop-again c = search needs
-
-same-length-7 : tie.Need-same-length-7 Inv-loop μ-loop
-same-length-7 c = search needs
 
 same-length-8 : tie.Need-same-length-8 Inv-loop μ-loop
 same-length-8 c = search needs
@@ -72,6 +73,12 @@ same-length-11 c = search needs
 
 same-length-12 : tie.Need-same-length-12 Inv-loop μ-loop
 same-length-12 c = search needs
+
+same-length-13 : tie.Need-same-length-13 Inv-loop μ-loop
+same-length-13 c = search needs
+
+same-length-14 : tie.Need-same-length-14 Inv-loop μ-loop
+same-length-14 c = search needs
 
 returns-2 : tie.Need-returns-2 Inv-loop μ-loop
 returns-2 c = search needs
@@ -90,14 +97,16 @@ take-all-spec =
     same-length-4
     same-length-5
     same-length-6
+    same-length-7
     returns
     sub-turns
     loop-less
     loop-again
-    same-length-7
     same-length-8
     same-length-9
     same-length-10
     same-length-11
     same-length-12
+    same-length-13
+    same-length-14
     returns-2)

@@ -8,22 +8,29 @@ use Rattle.desk.proofs.console.take_bytes.Statement.{statement}
 use Rattle.desk.proofs.console.take_bytes.Tie as tie
 
 abbrev Inv-loop : tie.InvT-loop
-Inv-loop bytes bands₀ nodes₀ marks₀ line₀ output₀ now₀ at₀ bands nodes marks line output now at = (length bands ≡ length bands₀) × (length nodes ≡ length nodes₀) × (length marks ≡ length marks₀) × (length line ≡ length line₀) × (length output ≡ length output₀)
+Inv-loop bytes bands₀ nodes₀ marks₀ records₀ line₀ output₀ now₀ at₀ bands nodes marks records line output now at =
+    (length bands ≡ length bands₀)
+    × (length nodes ≡ length nodes₀)
+    × (length marks ≡ length marks₀)
+    × (length records ≡ length records₀)
+    × (length line ≡ length line₀)
+    × (length output ≡ length output₀)
 
 abbrev μ-loop : tie.MeasureT-loop
-μ-loop bytes bands₀ nodes₀ marks₀ line₀ output₀ now₀ at₀ bands nodes marks line output now at = length bytes - at
+μ-loop bytes bands₀ nodes₀ marks₀ records₀ line₀ output₀ now₀ at₀ bands nodes marks records line output now at =
+    length bytes - at
 
 loop-holds : tie.Need-loop-holds Inv-loop μ-loop
 loop-holds c = search needs
 
-shared-slice-read-take-byte : tie.Need-shared-slice-read-take-byte Inv-loop μ-loop
-shared-slice-read-take-byte c = search needs
-
-take-byte-requires : tie.Need-take-byte-requires Inv-loop μ-loop
-take-byte-requires c κs = search needs
+shared-slice-read-byte : tie.Need-shared-slice-read-byte Inv-loop μ-loop
+shared-slice-read-byte c = search needs
 
 add-at : tie.Need-add-at Inv-loop μ-loop
 add-at c = search needs
+
+take-byte-requires : tie.Need-take-byte-requires Inv-loop μ-loop
+take-byte-requires c κs = search needs
 
 loop-less : tie.Need-loop-less Inv-loop μ-loop
 loop-less c = search needs
@@ -46,6 +53,9 @@ same-length-4 c = search needs
 same-length-5 : tie.Need-same-length-5 Inv-loop μ-loop
 same-length-5 c = search needs
 
+same-length-6 : tie.Need-same-length-6 Inv-loop μ-loop
+same-length-6 c = search needs
+
 returns : tie.Need-returns Inv-loop μ-loop
 returns c = search needs
 
@@ -56,9 +66,9 @@ take-bytes-spec =
     Inv-loop
     μ-loop
     loop-holds
-    shared-slice-read-take-byte
-    take-byte-requires
+    shared-slice-read-byte
     add-at
+    take-byte-requires
     loop-less
     loop-again
     same-length
@@ -66,4 +76,5 @@ take-bytes-spec =
     same-length-3
     same-length-4
     same-length-5
+    same-length-6
     returns)

@@ -9,7 +9,7 @@ abbrev Inv-loop : tie.InvT-loop
 Inv-loop name names place₀ place = Unit {0}
 
 abbrev μ-loop : tie.MeasureT-loop
-μ-loop name names place₀ place = 16 - place
+μ-loop name names place₀ place = 17 - place
 
 loop-holds : tie.Need-loop-holds Inv-loop μ-loop
 loop-holds c = search needs
