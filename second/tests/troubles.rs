@@ -33,7 +33,7 @@ fn a_desk_that_says_nothing_is_told_at_the_first_line() {
 
 #[test]
 fn a_desk_that_hangs_is_told_where_it_went_silent() {
-    let limit = Duration::from_millis(700);
+    let limit = Duration::from_secs(2);
     let desk = Desk {
         limit,
         ..spoiled("hangs")
@@ -75,7 +75,7 @@ fn a_desk_that_says_a_thing_twice_is_told() {
 #[test]
 fn a_desk_that_keeps_its_answers_back_is_told_when_it_is_talked_with() {
     let desk = Desk {
-        limit: Duration::from_secs(1),
+        limit: Duration::from_secs(4),
         ..spoiled("answers-kept-back")
     };
     assert_eq!(first_difference(&desk, &life()), None);

@@ -29,7 +29,7 @@ fn store_byte(line: &mut [u8], at: usize, byte: u8) {
     }
 }
 
-// The line a byte longer. Past what is kept only that it is too long counts.
+// The line a byte longer. Beyond what is kept all that counts is that it is too long.
 fn keep_byte(desk: Desk, byte: u8, line: &mut [u8]) -> Desk {
     let at = desk.line_length;
     let lent = desk.lent;
@@ -76,7 +76,7 @@ fn take_bytes(
     let mut at = 0;
     while at < bytes.len() {
         let byte = bytes[at];
-        // Before the call: behind it the loop's test lies too far back for the prover.
+        // Counted before the call: after it the prover no longer sees the loop's test.
         at += 1;
         now = take_byte(now, byte, bands, nodes, marks, records, line, output);
     }

@@ -1,5 +1,5 @@
-// The desk: a console on the box. It lends one memory to the calls of `profile` and one bench card to the scan of `card`, and does no work of its own
-// beyond reading words and writing answers (docs/DESK.md).
+// The desk: a console on the box. It lends one memory to the calls of `profile` and one bench card to the scan of `card`; what it does beside that
+// stands in docs/DESK.md.
 mod calling;
 mod carding;
 mod console;

@@ -2,9 +2,9 @@
 use crate::lending::Lent;
 
 pub struct Desk {
-    // The words lent.
+    // How many words of each store are lent.
     pub lent: Lent,
-    // How many words of the bench card hold records: counted in words, for no product has then to be shown to fit.
+    // How many words of the bench card hold records: counted in words, so that no product need be shown to fit.
     pub card_end: usize,
     // How long the line is so far.
     pub line_length: usize,

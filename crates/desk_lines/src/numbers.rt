@@ -33,7 +33,7 @@ fn with_digit(value: u64, digit: u8) -> u64 {
     }
 }
 
-// Reads all of a word, so that a wrong byte is told also behind too many digits.
+// Reads all of a word, so that a wrong byte is told even after too many digits.
 pub(crate) fn number_of(word: &[u8]) -> NumberRead {
     if word.len() == 0 {
         return wrong(Fault::NotANumber);

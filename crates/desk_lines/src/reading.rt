@@ -1,4 +1,4 @@
-// From a line to the command that it says. It sees the line alone.
+// From a line to the command that it says.
 use crate::bands;
 use crate::carding;
 use crate::commands::Change;
