@@ -1,7 +1,7 @@
 -- A record that was laid among the words is read back, and the other records stand as they did: among all records it alone is set. So a card kept
 -- in the first words has one record more, at its end, where one is laid next.
 -- Assumes nothing.
-use Prim.Native.Nat.{ℕ, zero, suc, _+_, _*_, _/_, _≤_, _<_}
+use Prim.Native.Nat.{ℕ, _+_, _*_, _/_, _≤_, _<_}
 use native.Mathlib.Nat.{add-zero}
 use native.Mathlib.Numerals.{add-one, towards-suc}
 use native.Mathlib.Omega.{arith}
@@ -12,36 +12,14 @@ use borrow.Author.Tests.{ltb-true, ltb-false, lt-ltb, le-ltb, eqb-true, eqb-fals
 use lib.Dec.{ltb, eqb}
 use lib.ListN.{length, getD, take, set, length-set}
 use lib.Seq.{sets, length-sets, getD-set-same, getD-set-other, set-out, take-suc-set, ext-getD}
-use Rattle.rules.specs.Connectives.{oneIf, saysYes}
+use Rattle.rules.specs.Connectives.{oneIf}
 use Rattle.rules.specs.HallLine.{Band}
+use Rattle.rules.proofs.Connectives.{one-if-says}
+use Rattle.rules.proofs.Lists.{stored-before, stored-after, stored-at}
 use Rattle.card.specs.Records.{recordAt, recordsIn, wordsOf, withRecord}
 use Rattle.card.proofs.Records.{records-length, record-at-index, records-in-first-words}
 
--- ---- a run of stores
-
--- before the run and after it the words stand as they did ..
-stored-before : (l vs : List ℕ) (i j d : ℕ) → j < i → getD (sets l i vs) j d ≡ getD l j d
-stored-before l [] i j d h = refl
-stored-before l (v ∷ vs) i j d h = stored-before (set l i v) vs (suc i) j d (omega arith) ∙ getD-set-other l i j v d (omega arith)
-
-stored-after : (l vs : List ℕ) (i j d : ℕ) → i + length vs ≤ j → getD (sets l i vs) j d ≡ getD l j d
-stored-after l [] i j d h = refl
-stored-after l (v ∷ vs) i j d h = stored-after (set l i v) vs (suc i) j d (omega arith) ∙ getD-set-other l i j v d (omega arith)
-
--- .. and in it each stored word stands at its place
-stored-at : (l vs : List ℕ) (i k d : ℕ) → i + length vs ≤ length l → k < length vs → getD (sets l i vs) (i + k) d ≡ getD vs k d
-stored-at l [] i k d h m = absurd (omega arith)
-stored-at l (v ∷ vs) i zero d h m =
-    rw add-zero (stored-before (set l i v) vs (suc i) i d (omega arith) ∙ getD-set-same l i v d (omega arith))
-stored-at l (v ∷ vs) i (suc k) d h m =
-    let moved : i + suc k ≡ suc i + k = omega arith in
-    rw moved (stored-at (set l i v) vs (suc i) k d (omega (arith, length-set l i v)) (omega arith))
-
 -- ---- a record
-
-closed-back : (t : Bool) → saysYes (oneIf t) ≡ t
-closed-back true = refl
-closed-back false = refl
 
 module _ (ws : List ℕ) (i : ℕ) (b : Band) where
   -- the six stores
@@ -68,7 +46,7 @@ module _ (ws : List ℕ) (i : ℕ) (b : Band) where
     word : (k : ℕ) → k < 6 → getD laid (i * 6 + k) 0 ≡ getD (wordsOf b) k 0
     word k m = stored-at ws (wordsOf b) (i * 6) k 0 (omega arith) m
 
-    pub record-laid : recordAt (withRecord ws i b) i ≡ b
+    record-laid : recordAt (withRecord ws i b) i ≡ b
     unfolding recordAt
     record-laid =
         let first : getD laid (i * 6) 0 ≡ b .number = ap (λ (j : ℕ). getD laid j 0) (sym (add-zero (i * 6))) ∙ word 0 (omega arith) in
@@ -80,8 +58,8 @@ module _ (ws : List ℕ) (i : ℕ) (b : Band) where
           word 3 (omega arith),
           word 4 (omega arith),
           word 5 (omega arith),
-          closed-back (b .lowClosed),
-          closed-back (b .highClosed),
+          one-if-says (b .lowClosed),
+          one-if-says (b .highClosed),
         )
 
     other-word : (j k : ℕ) → (j ≡ i → ⊥) → k < 6 → getD laid (j * 6 + k) 0 ≡ getD ws (j * 6 + k) 0
@@ -91,9 +69,9 @@ module _ (ws : List ℕ) (i : ℕ) (b : Band) where
         go true e = let l = ltb-true j i e in stored-before ws (wordsOf b) (i * 6) (j * 6 + k) 0 (omega arith)
         go false e = let l = ltb-false j i e in stored-after ws (wordsOf b) (i * 6) (j * 6 + k) 0 (omega arith)
 
-    other-kept : (j : ℕ) → (j ≡ i → ⊥) → recordAt (withRecord ws i b) j ≡ recordAt ws j
+    other-record-kept : (j : ℕ) → (j ≡ i → ⊥) → recordAt (withRecord ws i b) j ≡ recordAt ws j
     unfolding recordAt
-    other-kept j n =
+    other-record-kept j n =
         let first : getD laid (j * 6) 0 ≡ getD ws (j * 6) 0 = rw add-zero at (other-word j 0 n (omega arith)) in
         rw (
           with-record,
@@ -104,13 +82,6 @@ module _ (ws : List ℕ) (i : ℕ) (b : Band) where
           other-word j 4 n (omega arith),
           other-word j 5 n (omega arith),
         )
-
-  pub other-record-kept : (j : ℕ) → (j ≡ i → ⊥) → recordAt (withRecord ws i b) j ≡ recordAt ws j
-  other-record-kept j n = go (ltb i (length ws / 6)) refl
-    where
-      go : (t : Bool) → ltb i (length ws / 6) ≡ t → recordAt (withRecord ws i b) j ≡ recordAt ws j
-      go true e = other-kept (ltb-true i (length ws / 6) e) j n
-      go false e = ap (λ (us : List ℕ). recordAt us j) (record-out (ltb-false i (length ws / 6) e))
 
 -- ---- all records
 
@@ -128,7 +99,7 @@ module _ (ws : List ℕ) (i : ℕ) (b : Band) where
             rw (eqb-true j i e) (record-laid ws i b h ∙ sym (getD-set-same (recordsIn ws) i b b (omega (arith, records-length ws))))
         go false e =
             let other = eqb-false j i e in
-            other-record-kept ws i b j other
+            other-record-kept ws i b h j other
             ∙ sym (getD-set-other (recordsIn ws) i j b b other ∙ record-at-index ws b j l)
 
     set-among-records : recordsIn (withRecord ws i b) ≡ set (recordsIn ws) i b

@@ -1,4 +1,4 @@
--- What the tests over lists and lanes mean, by membership; places in a list; ascending lists; who stands in a list made of another.
+-- What the tests over lists and lanes mean, by membership; places in a list; runs of stores; ascending lists; who stands in a list made of another.
 -- Assumes nothing.
 use Prim.Native.Nat.{ℕ, zero, suc, _+_, _-_, _≤_, _<_}
 use mathlib.Core.Path.{_≡_, refl, sym, _∙_, ap, ap₂, subst, subst⁻¹}
@@ -10,8 +10,8 @@ use native.Mathlib.Numerals.{add-one}
 use native.Mathlib.Omega.{arith}
 use native.Mathlib.Nat.{eq-or-lt-of-le, add-zero}
 use lib.Dec.{ltb, eqb}
-use lib.ListN.{length, getD, take, drop, length-drop}
-use lib.Seq.{take-suc, drop-cons, drop-nil, drop-drop}
+use lib.ListN.{length, getD, take, drop, set, length-drop, length-set}
+use lib.Seq.{sets, take-suc, drop-cons, drop-nil, drop-drop, getD-set-same, getD-set-other}
 use borrow.Author.Tests.{ltb-true, ltb-false, lt-ltb, le-ltb}
 use Rattle.rules.specs.Connectives.{_and_, oneIf}
 use Rattle.rules.specs.Lists.{onlyIf, addIf, any, all, keep, firstOf, countIf, member, distinct, someLane, placed, sameNumbers, allFrom}
@@ -300,6 +300,27 @@ module _ {A : Type 0} (f : ℕ → A) (made : ℕ → ℕ → List A) (empty : (
   made-here i zero t l = absurd (omega arith)
   made-here i (suc m) zero l = rw (more, add-zero)
   made-here i (suc m) (suc t) l = let moved : i + suc t ≡ suc i + t = omega arith in rw (more, moved) (made-here (suc i) m t (omega arith))
+
+-- ---- a run of stores
+
+module _ {A : Type 0} where
+  -- before the run and after it the elements stand as they did ..
+  pub stored-before : (l vs : List A) (i j : ℕ) (d : A) → j < i → getD (sets l i vs) j d ≡ getD l j d
+  stored-before l [] i j d h = refl
+  stored-before l (v ∷ vs) i j d h = stored-before (set l i v) vs (suc i) j d (omega arith) ∙ getD-set-other l i j v d (omega arith)
+
+  pub stored-after : (l vs : List A) (i j : ℕ) (d : A) → i + length vs ≤ j → getD (sets l i vs) j d ≡ getD l j d
+  stored-after l [] i j d h = refl
+  stored-after l (v ∷ vs) i j d h = stored-after (set l i v) vs (suc i) j d (omega arith) ∙ getD-set-other l i j v d (omega arith)
+
+  -- .. and in it each stored element stands at its place
+  pub stored-at : (l vs : List A) (i k : ℕ) (d : A) → i + length vs ≤ length l → k < length vs → getD (sets l i vs) (i + k) d ≡ getD vs k d
+  stored-at l [] i k d h m = absurd (omega arith)
+  stored-at l (v ∷ vs) i zero d h m =
+      rw add-zero (stored-before (set l i v) vs (suc i) i d (omega arith) ∙ getD-set-same l i v d (omega arith))
+  stored-at l (v ∷ vs) i (suc k) d h m =
+      let moved : i + suc k ≡ suc i + k = omega arith in
+      rw moved (stored-at (set l i v) vs (suc i) k d (omega (arith, length-set l i v)) (omega arith))
 
 -- ---- lanes
 

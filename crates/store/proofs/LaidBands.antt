@@ -2,15 +2,16 @@
 -- Assumes nothing.
 use Prim.Native.Nat.{ℕ, zero, suc, _+_, _*_, _/_, _%_, _≤_, _<_}
 use mathlib.Core.Path.{_≡_, refl, sym, _∙_, ap, subst}
-use mathlib.Core.Bool.{Bool, true, false}
+use mathlib.Core.Bool.{false}
 use mathlib.Core.List.{List, []}
 use mathlib.Core.Option.{Option, none, some}
 use native.Mathlib.Nat.{zero-add}
 use native.Mathlib.Omega.{arith}
 use lib.ListN.{length, getD, replicate}
-use Rattle.rules.specs.Connectives.{oneIf, saysYes}
+use Rattle.rules.specs.Connectives.{saysYes}
 use Rattle.rules.specs.HallLine.{Band, bandOf, highestBandNumber}
 use Rattle.rules.specs.Profile.{bandNumbered}
+use Rattle.rules.proofs.Connectives.{one-if-says}
 use Rattle.rules.proofs.Means.{never}
 use Rattle.rules.proofs.Lists.{In, Each, ascends-by-members, made-length, made-at}
 use Rattle.rules.proofs.Profile.{NumbersAsc, numbered-in, numbered}
@@ -51,11 +52,6 @@ module _ (bs : List Band) where
       let place : (b * 8 + f) / 8 ≡ b = omega arith in
       let field : (b * 8 + f) % 8 ≡ f = omega arith in
       laid-band-word (b * 8 + f) (omega arith) ∙ (λ i. laidBandField (bandNumbered (place i) bs) (field i))
-
--- a closed end is told by a word and read back
-one-if-says : (t : Bool) → saysYes (oneIf t) ≡ t
-one-if-says true = refl
-one-if-says false = refl
 
 module _ (bs : List Band) (b : ℕ) (h : b < bandPlaces) where
   -- a field of the place by the band that its number names
