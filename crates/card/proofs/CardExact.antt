@@ -18,7 +18,8 @@ use Rattle.rules.specs.BenchCard.{Scan as RuledScan, Bad, bad, recordFault, car
 use Rattle.rules.proofs.Means.{passes-or-fails, denied, at-most-or-above}
 use Rattle.rules.proofs.Lists.{In, Some, Each, each-cons, member-means, in-map}
 use Rattle.rules.proofs.Marks.{numbersOf}
-use Rattle.rules.proofs.BoxSaysNo.{Ordered, Given, lowest-given, BandRight, band-fault-zero}
+use Rattle.rules.proofs.FirstLine.{Ordered, Lowest, lowest-given}
+use Rattle.rules.proofs.BoxSaysNo.{BandRight, band-fault-zero}
 use Rattle.rules.proofs.BenchCard.{record-fault-zero, record-fault-of-band, record-fault-twice, CardRight, FirstBad, right-or-bad, card-key-bad, card-first-bad, card-bad-zero, scan-tells, scan-zeros, scan-right, scan-flag, scan-count}
 use Rattle.hall.specs.Says.{answerSays}
 use Rattle.card.specs.Says.{scanSays}
@@ -34,7 +35,7 @@ pub record ExactScan (records : List Band) (k : ℕ) (said : RuledScan) : Type 0
 
 -- the fault of a record after those before it: the lowest of 2 to 6 that applies to it, or, where none does, 8 where one before it has its number
 abbrev pub FaultAfter : List Band → Band → ℕ → Type 0
-FaultAfter before b fault = Given (bandLines b) fault ⊎ (BandRight b × Some (λ c. c .number ≡ b .number) before × (fault ≡ 8))
+FaultAfter before b fault = Lowest (bandLines b) fault ⊎ (BandRight b × Some (λ c. c .number ≡ b .number) before × (fault ≡ 8))
 
 -- the records before that place, counted from 1, are right, and the one there has that fault after them
 pub record FirstBadRecord (records : List Band) (fault place : ℕ) : Type 0 where
@@ -52,7 +53,7 @@ numbers-above-zero : (c : ℕ) (ls : List TableLine) → 0 < c → Ordered c ls 
 numbers-above-zero c [] p o = λ l i. absurd i
 numbers-above-zero c (l ∷ ls) p o = each-cons l ls .1 (omega arith, numbers-above-zero (l .refusal) ls (omega arith) (o .1))
 
-band-fault-given : (b : Band) (fault : ℕ) → 0 < fault → (bandFault b ≡ fault) ↔ Given (bandLines b) fault
+band-fault-given : (b : Band) (fault : ℕ) → 0 < fault → (bandFault b ≡ fault) ↔ Lowest (bandLines b) fault
 unfolding bandFault
 band-fault-given b fault = lowest-given (bandLines b) (omega arith) fault
 
@@ -70,7 +71,7 @@ module _ (before : List Band) (b : Band) where
   fault-as-ruled fault (inr t) = let e = t .2 in (record-fault-twice (numbersOf before) b (t .0) (seen-before .1 (t .1)) ∙ sym e, omega arith)
 
   module _ (h : recordFault (numbersOf before) b ≡ 0 → ⊥) where
-    by-band : (bandFault b ≡ 0 → ⊥) → Given (bandLines b) (recordFault (numbersOf before) b)
+    by-band : (bandFault b ≡ 0 → ⊥) → Lowest (bandLines b) (recordFault (numbersOf before) b)
     by-band own = rw (record-fault-of-band (numbersOf before) b own) (band-fault-given b (bandFault b) (omega arith) .0 refl)
 
     number-seen : BandRight b → In (b .number) (numbersOf before)

@@ -14,7 +14,8 @@ use Rattle.rules.specs.HallLine.{Band, holds}
 use Rattle.rules.specs.Flags.{flagsOf}
 use Rattle.rules.specs.BoxSaysNo.{line, bandLines, bandFault, keyFault, noFlags}
 use Rattle.rules.specs.BenchCard.{Bad, bad, Scan, recordFault, firstBad, cardBad, scanned, scanOf}
-use Rattle.rules.proofs.BoxSaysNo.{lowest-past, lowest-zero, band-fault-zero}
+use Rattle.rules.proofs.FirstLine.{refusal-then}
+use Rattle.rules.proofs.BoxSaysNo.{band-fault-zero}
 use Rattle.rules.proofs.BenchCard.{record-fault-of-band, first-bad-past, first-bad-here}
 use Rattle.rules.proofs.Marks.{numbersHolding}
 use Rattle.rules.proofs.Flags.{flags-of-none, ones-of-flags}
@@ -38,7 +39,7 @@ module _ (seen : List ℕ) (b : Band) where
   fault-of-number : bandFault b ≡ 0 → recordFault seen b ≡ cond (member (b .number) seen) 8 0
   unfolding bandFault recordFault
   fault-of-number z =
-      lowest-past (bandLines b) (line 8 (member (b .number) seen) ∷ []) (lowest-zero (bandLines b) (omega arith) .0 z)
+      refusal-then (bandLines b) (line 8 (member (b .number) seen) ∷ []) (omega arith) z
 
 -- where the flags are those of the numbers seen, a record is judged as by the rules: the flag is asked only of a number that has one
 judged-as-ruled : (seen : List ℕ) (b : Band) → judgeOf (flagsOf seen) b ≡ recordFault seen b

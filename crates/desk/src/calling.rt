@@ -1,60 +1,39 @@
-// The box's calls, each with its answer.
+// The box's calls.
+use desk_answers::Told;
 use desk_lines::Change;
 use desk_lines::Question;
+use hall::Answer;
+
+fn answer_to(change: Change, bands: &mut [u32], nodes: &mut [u32], marks: &mut [u32]) -> Answer {
+    match change {
+        Change::Empty => changing::empty(bands, nodes, marks),
+        Change::Insert(band, low_level, high_level) => {
+            changing::insert(bands, nodes, marks, band, low_level, high_level)
+        }
+        Change::Remove(number, scope) => changing::remove(bands, nodes, marks, number, scope),
+    }
+}
 
 pub(crate) fn change(
     change: Change,
     bands: &mut [u32],
     nodes: &mut [u32],
     marks: &mut [u32],
-    output: &mut [u8],
-    written: usize,
-) -> usize {
-    match change {
-        Change::Empty => {
-            desk_answers::tell_change(output, written, profile::empty(bands, nodes, marks))
-        }
-        Change::Insert(band, low_level, high_level) => {
-            let answer = profile::insert(bands, nodes, marks, band, low_level, high_level);
-            desk_answers::tell_change(output, written, answer)
-        }
-        Change::Remove(number, scope) => {
-            let answer = profile::remove(bands, nodes, marks, number, scope);
-            desk_answers::tell_change(output, written, answer)
-        }
-    }
+) -> Told {
+    desk_answers::change_answer(answer_to(change, bands, nodes, marks))
 }
 
-pub(crate) fn ask(
-    question: Question,
-    bands: &[u32],
-    nodes: &[u32],
-    marks: &[u32],
-    output: &mut [u8],
-    written: usize,
-) -> usize {
+pub(crate) fn ask(question: Question, bands: &[u32], nodes: &[u32], marks: &[u32]) -> Told {
     match question {
-        Question::Stab(key) => {
-            desk_answers::tell_stab(output, written, profile::stab(bands, nodes, marks, key))
-        }
-        Question::Check => {
-            desk_answers::tell_check(output, written, profile::check(bands, nodes, marks))
-        }
+        Question::Stab(key) => { desk_answers::stab_answer(asking::stab(bands, nodes, marks, key)) }
+        Question::Check => desk_answers::check_answer(checking::check(bands, nodes, marks)),
         Question::Band(number) => {
-            desk_answers::tell_band(output, written, profile::band(bands, nodes, marks, number))
+            desk_answers::band_answer(asking::band(bands, nodes, marks, number))
         }
         Question::Edge(key, lane) => {
-            desk_answers::tell_edge(
-                output,
-                written,
-                profile::edge(bands, nodes, marks, key, lane),
-            )
+            desk_answers::edge_answer(asking::edge(bands, nodes, marks, key, lane))
         }
-        Question::Node(key) => {
-            desk_answers::tell_node(output, written, profile::node(bands, nodes, marks, key))
-        }
-        Question::Room => {
-            desk_answers::tell_room(output, written, profile::room(bands, nodes, marks))
-        }
+        Question::Node(key) => { desk_answers::node_answer(asking::node(bands, nodes, marks, key)) }
+        Question::Room => desk_answers::room_answer(asking::room(bands, nodes, marks)),
     }
 }

@@ -1,50 +1,40 @@
 // The bench card: a list of records that the desk keeps beside the memory. No record is judged before a scan.
 use crate::lending;
-use crate::state;
 use crate::state::Desk;
+use crate::state::Done;
+use desk_answers::Told;
 use desk_lines::Card;
 use desk_lines::Fault;
 use hall::Band;
 use hall::Key;
 
-// The words that the desk has for the card.
-pub const CARD_STORE: usize = card::RECORD_WORDS * card::MOST_RECORDS;
+// The words that the card has, the first of the desk's own.
+const CARD_WORDS: usize = card::RECORD_WORDS * card::MOST_RECORDS;
 
-// The desk after a line that has changed the card alone.
-fn with_card(desk: Desk, card_end: usize, written: usize) -> Desk {
-    let lent = desk.lent;
-    state::between_lines(lent, card_end, written)
+fn with_card(mut desk: Desk, card_end: usize) -> Done {
+    desk.card_end = card_end;
+    desk.told(desk_answers::done())
 }
 
-fn add(desk: Desk, band: Band, records: &mut [u32], output: &mut [u8], written: usize) -> Desk {
+fn add(desk: Desk, band: Band, records: &mut [u32]) -> Done {
     let end = desk.card_end;
-    if CARD_STORE <= end {
-        return desk.after_line(desk_answers::tell_fault(output, written, Fault::CardFull));
+    if CARD_WORDS <= end {
+        return desk.told(desk_answers::fault_answer(Fault::CardFull));
     }
     card::lay_record(records, end / card::RECORD_WORDS, band);
-    with_card(
-        desk,
-        end + card::RECORD_WORDS,
-        desk_answers::tell_done(output, written),
-    )
+    with_card(desk, end + card::RECORD_WORDS)
 }
 
-fn scan(card_end: usize, key: Key, records: &[u32], output: &mut [u8], written: usize) -> usize {
+fn scan(card_end: usize, key: Key, records: &[u32]) -> Told {
     let zero = 0;
     let end = lending::end_in(card_end, records);
-    desk_answers::tell_scan(output, written, card::scan_words(&records[zero..end], key))
+    desk_answers::scan_answer(card::scan_words(&records[zero..end], key))
 }
 
-pub(crate) fn do_card(
-    desk: Desk,
-    asked: Card,
-    records: &mut [u32],
-    output: &mut [u8],
-    written: usize,
-) -> Desk {
+pub(crate) fn do_card(desk: Desk, asked: Card, records: &mut [u32]) -> Done {
     match asked {
-        Card::Clear => with_card(desk, 0, desk_answers::tell_done(output, written)),
-        Card::Add(band) => add(desk, band, records, output, written),
-        Card::Scan(key) => desk.after_line(scan(desk.card_end, key, records, output, written)),
+        Card::Clear => with_card(desk, 0),
+        Card::Add(band) => add(desk, band, records),
+        Card::Scan(key) => desk.told(scan(desk.card_end, key, records)),
     }
 }

@@ -1,14 +1,10 @@
 // Which of the desk's words are lent: so many from the first of each store on.
 ghost use Prim.Native.Nat.{_≤_};
 ghost use lib.ListN.{length};
+use crate::stores::BAND_STORE;
+use crate::stores::MARK_STORE;
+use crate::stores::NODE_STORE;
 use desk_lines::Lending;
-
-// The words that the desk has: some more than the largest memory of the box, so that lengths that are too large can be lent as well.
-pub const BAND_STORE: usize = 8200;
-
-pub const NODE_STORE: usize = 41020;
-
-pub const MARK_STORE: usize = 16400;
 
 // The most nodes for which there are words.
 const MOST_NODE_ROOM: u32 = 2050;

@@ -1,25 +1,40 @@
-// Answers on their way out: they are kept in a buffer until all that was read is done, or the buffer fills.
+// Answers on their way out: they are kept until all that was read is done, or their store fills.
+use crate::state::Desk;
+use crate::stores::OUTPUT_START;
+use desk_answers::Told;
 use libc::STDOUT_FILENO;
 
 // More bytes than any answer has.
 const ANSWER_ROOM: usize = 8192;
 
-// Writes out what the buffer holds. It then holds nothing.
-pub(crate) fn flush(output: &[u8], written: usize) -> usize {
-    if written <= output.len() {
-        // Bounds of a part of a slice are both given by name, which the prover takes without help.
-        let zero = 0;
-        io::write_all(STDOUT_FILENO, &output[zero..written]);
+// Writes out the answers that are kept. Then there are none.
+pub(crate) fn flush(bytes: &[u8], written: usize) -> usize {
+    let start = OUTPUT_START;
+    if start <= written {
+        if written <= bytes.len() {
+            io::write_all(STDOUT_FILENO, &bytes[start..written]);
+        }
     }
-    0
+    start
 }
 
 // Makes room for an answer.
-pub(crate) fn make_room(output: &[u8], written: usize) -> usize {
-    if written <= output.len() {
-        if ANSWER_ROOM <= output.len() - written {
+fn make_room(bytes: &[u8], written: usize) -> usize {
+    if written <= bytes.len() {
+        if ANSWER_ROOM <= bytes.len() - written {
             return written;
         }
     }
-    flush(output, written)
+    flush(bytes, written)
+}
+
+// Keeps an answer; at the input's end all are written out.
+pub(crate) fn tell(mut desk: Desk, told: Told, bytes: &mut [u8]) -> Desk {
+    let start = make_room(bytes, desk.written);
+    let written = desk_answers::tell(bytes, start, told);
+    desk.written = written;
+    if desk.input_ended {
+        flush(bytes, written);
+    }
+    desk
 }

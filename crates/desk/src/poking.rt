@@ -1,4 +1,5 @@
 // The lent words as words: filled, poked, peeked at and summed.
+use desk_answers::Told;
 use desk_lines::Fault;
 use desk_lines::Poking;
 use desk_lines::Slice;
@@ -31,21 +32,21 @@ fn sum_on(sum: u64, words: &[u32]) -> u64 {
     so_far
 }
 
-fn poke(words: &mut [u32], index: u32, word: u32, output: &mut [u8], written: usize) -> usize {
+fn poke(words: &mut [u32], index: u32, word: u32) -> Told {
     let at = index as usize;
     if words.len() <= at {
-        return desk_answers::tell_fault(output, written, Fault::NoSuchWord);
+        return desk_answers::fault_answer(Fault::NoSuchWord);
     }
     words[at] = word;
-    desk_answers::tell_done(output, written)
+    desk_answers::done()
 }
 
-fn peek(words: &[u32], index: u32, output: &mut [u8], written: usize) -> usize {
+fn peek(words: &[u32], index: u32) -> Told {
     let at = index as usize;
     if words.len() <= at {
-        return desk_answers::tell_fault(output, written, Fault::NoSuchWord);
+        return desk_answers::fault_answer(Fault::NoSuchWord);
     }
-    desk_answers::tell_number(output, written, words[at])
+    desk_answers::number_answer(words[at])
 }
 
 fn poke_in(
@@ -55,41 +56,32 @@ fn poke_in(
     bands: &mut [u32],
     nodes: &mut [u32],
     marks: &mut [u32],
-    output: &mut [u8],
-    written: usize,
-) -> usize {
+) -> Told {
     match slice {
-        Slice::Bands => poke(bands, index, word, output, written),
-        Slice::Nodes => poke(nodes, index, word, output, written),
-        Slice::Marks => poke(marks, index, word, output, written),
+        Slice::Bands => poke(bands, index, word),
+        Slice::Nodes => poke(nodes, index, word),
+        Slice::Marks => poke(marks, index, word),
     }
 }
 
-fn peek_in(
-    slice: Slice,
-    index: u32,
-    bands: &[u32],
-    nodes: &[u32],
-    marks: &[u32],
-    output: &mut [u8],
-    written: usize,
-) -> usize {
+fn peek_in(slice: Slice, index: u32, bands: &[u32], nodes: &[u32], marks: &[u32]) -> Told {
     match slice {
-        Slice::Bands => peek(bands, index, output, written),
-        Slice::Nodes => peek(nodes, index, output, written),
-        Slice::Marks => peek(marks, index, output, written),
+        Slice::Bands => peek(bands, index),
+        Slice::Nodes => peek(nodes, index),
+        Slice::Marks => peek(marks, index),
     }
 }
 
-fn tell_sum(
-    bands: &[u32],
-    nodes: &[u32],
-    marks: &[u32],
-    output: &mut [u8],
-    written: usize,
-) -> usize {
+fn fill_all(word: u32, bands: &mut [u32], nodes: &mut [u32], marks: &mut [u32]) -> Told {
+    fill(bands, word);
+    fill(nodes, word);
+    fill(marks, word);
+    desk_answers::done()
+}
+
+fn sum_all(bands: &[u32], nodes: &[u32], marks: &[u32]) -> Told {
     let sum = sum_on(sum_on(sum_on(0, bands), nodes), marks);
-    desk_answers::tell_number(output, written, (sum % PRIME) as u32)
+    desk_answers::number_answer((sum % PRIME) as u32)
 }
 
 pub(crate) fn do_poking(
@@ -97,22 +89,11 @@ pub(crate) fn do_poking(
     bands: &mut [u32],
     nodes: &mut [u32],
     marks: &mut [u32],
-    output: &mut [u8],
-    written: usize,
-) -> usize {
+) -> Told {
     match poking {
-        Poking::Fill(word) => {
-            fill(bands, word);
-            fill(nodes, word);
-            fill(marks, word);
-            desk_answers::tell_done(output, written)
-        }
-        Poking::Poke(slice, index, word) => {
-            poke_in(slice, index, word, bands, nodes, marks, output, written)
-        }
-        Poking::Peek(slice, index) => {
-            peek_in(slice, index, bands, nodes, marks, output, written)
-        }
-        Poking::Sum => tell_sum(bands, nodes, marks, output, written),
+        Poking::Fill(word) => fill_all(word, bands, nodes, marks),
+        Poking::Poke(slice, index, word) => poke_in(slice, index, word, bands, nodes, marks),
+        Poking::Peek(slice, index) => peek_in(slice, index, bands, nodes, marks),
+        Poking::Sum => sum_all(bands, nodes, marks),
     }
 }

@@ -1,31 +1,49 @@
 // What the desk knows between bytes.
+use crate::lending;
 use crate::lending::Lent;
+use crate::stores::INPUT_START;
+use crate::stores::OUTPUT_START;
+use desk_answers::Told;
 
 pub struct Desk {
     // How many words of each store are lent.
     pub lent: Lent,
     // How many words of the bench card hold records: counted in words, so that no product need be shown to fit.
     pub card_end: usize,
-    // How long the line is so far.
+    // How long the line is so far, and whether it has ended.
     pub line_length: usize,
-    // How many bytes of answers the buffer holds.
+    pub line_ended: bool,
+    // Where the bytes stand that were read and not yet taken, and whether the input has ended.
+    pub next: usize,
+    pub end: usize,
+    pub input_ended: bool,
+    // Where the answers end that are kept.
     pub written: usize,
 }
 
-impl Desk {
-    // The desk after a line that has changed neither what is lent nor the card.
-    pub(crate) fn after_line(self, written: usize) -> Desk {
-        let lent = self.lent;
-        between_lines(lent, self.card_end, written)
-    }
+// A command done: the desk after it, and its answer.
+pub struct Done {
+    pub desk: Desk,
+    pub told: Told,
 }
 
-// The desk between two lines.
-pub(crate) fn between_lines(lent: Lent, card_end: usize, written: usize) -> Desk {
-    Desk {
-        lent,
-        card_end,
-        line_length: 0,
-        written,
+impl Desk {
+    // At the start the largest memory that the box takes is lent, the card has no record, and no byte is read.
+    pub(crate) fn at_start() -> Desk {
+        Desk {
+            lent: lending::at_start(),
+            card_end: 0,
+            line_length: 0,
+            line_ended: false,
+            next: INPUT_START,
+            end: INPUT_START,
+            input_ended: false,
+            written: OUTPUT_START,
+        }
+    }
+
+    // Where nothing of the desk has changed.
+    pub(crate) fn told(self, told: Told) -> Done {
+        Done { desk: self, told }
     }
 }

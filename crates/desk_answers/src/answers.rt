@@ -1,157 +1,172 @@
-// The answers of the calls, a line each: the values where the call is done, else the refusal.
-use crate::refusals;
-use crate::writing;
+// The answers of the commands, each with its form. Where a call is refused, its answer is the refusal's.
+use crate::forms::Told;
+use crate::forms::VALUES;
+use crate::forms::plain;
+use asking::BandRead;
+use asking::EdgeRead;
+use asking::NodeRead;
+use asking::RoomRead;
+use asking::StabRead;
 use card::Scan;
+use desk_lines::Fault;
 use hall::Answer;
-use hall::Key;
 use hall::Next;
-use profile::BandRead;
-use profile::EdgeRead;
-use profile::NodeRead;
-use profile::RoomRead;
-use profile::StabRead;
+use hall::Refusal;
 
-pub fn tell_done(output: &mut [u8], written: usize) -> usize {
-    writing::put(output, written, b"0\n")
+// Values that are words, three at most.
+fn words(first: u32, second: u32, third: u32) -> [u64; VALUES] {
+    [first as u64, second as u64, third as u64, 0, 0, 0]
 }
 
-// The commands' names.
-pub fn tell_help(output: &mut [u8], written: usize) -> usize {
-    let names = desk_lines::NAMES;
-    let begun = writing::put(output, written, b"0 ");
-    let told = writing::put(output, begun, &names);
-    writing::put(output, told, b"\n")
+// No line at all.
+pub fn nothing() -> Told {
+    plain(*b".                                       ", [0; VALUES])
+}
+
+pub fn done() -> Told {
+    plain(*b"0.                                      ", [0; VALUES])
+}
+
+pub fn help_answer() -> Told {
+    plain(*b"0@.                                     ", [0; VALUES])
+}
+
+pub fn fault_answer(fault: Fault) -> Told {
+    plain(
+        *b"? !.                                    ",
+        words(fault.number(), 0, 0),
+    )
 }
 
 // One number beside the 0.
-pub fn tell_number(output: &mut [u8], written: usize, number: u32) -> usize {
-    let begun = writing::put(output, written, b"0 ");
-    let told = writing::put_number(output, begun, number);
-    writing::put(output, told, b"\n")
+pub fn number_answer(number: u32) -> Told {
+    plain(
+        *b"0 #.                                    ",
+        words(number, 0, 0),
+    )
 }
 
-pub fn tell_change(output: &mut [u8], written: usize, answer: Answer) -> usize {
-    match answer {
-        Answer::Done => tell_done(output, written),
-        Answer::Refused(refusal) => refusals::tell(output, written, refusal),
-    }
-}
-
-pub fn tell_check(output: &mut [u8], written: usize, sound: bool) -> usize {
+pub fn check_answer(sound: bool) -> Told {
     if sound {
-        writing::put(output, written, b"yes\n")
+        plain(*b"yes.                                    ", [0; VALUES])
     } else {
-        writing::put(output, written, b"no\n")
+        plain(*b"no.                                     ", [0; VALUES])
     }
 }
 
-// The last part of many answers: the numbers that are flagged, and the line's end.
-fn put_bands(output: &mut [u8], written: usize, flags: &[u64; 16]) -> usize {
-    let begun = writing::put(output, written, b" bands");
-    let told = writing::put_flagged(output, begun, flags);
-    writing::put(output, told, b"\n")
+fn refused(refusal: Refusal) -> Told {
+    let number = refusal.number();
+    plain(
+        *b"# $.                                    ",
+        words(number, number, 0),
+    )
 }
 
-// A value with the word before it.
-fn put_value(output: &mut [u8], written: usize, word: &[u8], value: u32) -> usize {
-    let begun = writing::put(output, written, word);
-    writing::put_number(output, begun, value)
-}
-
-pub fn tell_stab(output: &mut [u8], written: usize, read: StabRead) -> usize {
-    let answer = read.answer;
-    if let Answer::Refused(refusal) = answer {
-        return refusals::tell(output, written, refusal);
+// What is told where the call is done, or else its refusal.
+fn unless_refused(answer: Answer, told: Told) -> Told {
+    match answer {
+        Answer::Done => told,
+        Answer::Refused(refusal) => refused(refusal),
     }
-    let flags = read.flags;
-    let after_count = put_value(output, written, b"0 count ", read.count);
-    let after_met = put_value(output, after_count, b" met ", read.met);
-    let after_looks = put_value(output, after_met, b" looks ", read.looks);
-    put_bands(output, after_looks, &flags)
 }
 
-// The number and the place stand before values and words alike.
-fn begin_scan(output: &mut [u8], written: usize, answer: Answer, place: usize) -> usize {
-    let numbered = writing::put_number(output, written, answer.number());
-    let spaced = writing::put(output, numbered, b" place ");
-    writing::put_place(output, spaced, place)
+pub fn change_answer(answer: Answer) -> Told {
+    unless_refused(answer, done())
 }
 
-pub fn tell_scan(output: &mut [u8], written: usize, read: Scan) -> usize {
+pub fn stab_answer(read: StabRead) -> Told {
     let answer = read.answer;
     let flags = read.flags;
-    let begun = begin_scan(output, written, answer, read.place);
-    if let Answer::Refused(refusal) = answer {
-        return refusals::end_with_words(output, begun, refusal);
-    }
-    let counted = put_value(output, begun, b" count ", read.count);
-    put_bands(output, counted, &flags)
+    let told = Told {
+        form: *b"0 count # met # looks # bands%.         ",
+        values: words(read.count, read.met, read.looks),
+        flags,
+    };
+    unless_refused(answer, told)
 }
 
-// The ends as numbers, with a square bracket at a closed end and a round one at an open end.
-fn begin_stretch(output: &mut [u8], written: usize, low: Key, closed: bool) -> usize {
-    if closed {
-        put_value(output, written, b" stretch [", low.0)
-    } else {
-        put_value(output, written, b" stretch (", low.0)
-    }
-}
-
-fn end_stretch(output: &mut [u8], written: usize, high: Key, closed: bool) -> usize {
-    let told = put_value(output, written, b",", high.0);
-    if closed {
-        writing::put(output, told, b"]\n")
-    } else {
-        writing::put(output, told, b")\n")
-    }
-}
-
-pub fn tell_band(output: &mut [u8], written: usize, read: BandRead) -> usize {
+// A scan that is refused tells the place too.
+pub fn scan_answer(read: Scan) -> Told {
     let answer = read.answer;
-    if let Answer::Refused(refusal) = answer {
-        return refusals::tell(output, written, refusal);
+    let place = read.place as u64;
+    let flags = read.flags;
+    match answer {
+        Answer::Done => Told {
+            form: *b"0 place # count # bands%.               ",
+            values: [place, read.count as u64, 0, 0, 0, 0],
+            flags,
+        },
+        Answer::Refused(refusal) => {
+            let number = refusal.number() as u64;
+            plain(
+                *b"# place # $.                            ",
+                [number, place, number, 0, 0, 0],
+            )
+        }
     }
-    let low = read.low;
-    let high = read.high;
-    let after_scope = put_value(output, written, b"0 scope ", read.scope);
-    let after_low = begin_stretch(output, after_scope, low, read.low_closed);
-    end_stretch(output, after_low, high, read.high_closed)
 }
 
-fn put_next(output: &mut [u8], written: usize, next: Next) -> usize {
+// A closed end has a square bracket, an open one a round one.
+fn bracket(closed: bool, square: u8, round: u8) -> u64 {
+    if closed { square as u64 } else { round as u64 }
+}
+
+pub fn band_answer(read: BandRead) -> Told {
+    let answer = read.answer;
+    let low_bracket = bracket(read.low_closed, b'[', b'(');
+    let high_bracket = bracket(read.high_closed, b']', b')');
+    let told = plain(
+        *b"0 scope # stretch ^#,#^.                ",
+        [
+            read.scope as u64,
+            low_bracket,
+            read.low.0 as u64,
+            read.high.0 as u64,
+            high_bracket,
+            0,
+        ],
+    );
+    unless_refused(answer, told)
+}
+
+fn next_answer(next: Next, flags: [u64; 16]) -> Told {
     match next {
-        Next::Key(key) => put_value(output, written, b"0 next ", key.0),
-        Next::None => writing::put(output, written, b"0 next none"),
+        Next::Key(key) => Told {
+            form: *b"0 next # bands%.                        ",
+            values: words(key.0, 0, 0),
+            flags,
+        },
+        Next::None => Told {
+            form: *b"0 next none bands%.                     ",
+            values: [0; VALUES],
+            flags,
+        },
     }
 }
 
-pub fn tell_edge(output: &mut [u8], written: usize, read: EdgeRead) -> usize {
+pub fn edge_answer(read: EdgeRead) -> Told {
     let answer = read.answer;
-    if let Answer::Refused(refusal) = answer {
-        return refusals::tell(output, written, refusal);
-    }
     let flags = read.flags;
     let next = read.next;
-    let told = put_next(output, written, next);
-    put_bands(output, told, &flags)
+    unless_refused(answer, next_answer(next, flags))
 }
 
-pub fn tell_node(output: &mut [u8], written: usize, read: NodeRead) -> usize {
+pub fn node_answer(read: NodeRead) -> Told {
     let answer = read.answer;
-    if let Answer::Refused(refusal) = answer {
-        return refusals::tell(output, written, refusal);
-    }
     let flags = read.flags;
-    let told = put_value(output, written, b"0 level ", read.level);
-    put_bands(output, told, &flags)
+    let told = Told {
+        form: *b"0 level # bands%.                       ",
+        values: words(read.level, 0, 0),
+        flags,
+    };
+    unless_refused(answer, told)
 }
 
-pub fn tell_room(output: &mut [u8], written: usize, read: RoomRead) -> usize {
+pub fn room_answer(read: RoomRead) -> Told {
     let answer = read.answer;
-    if let Answer::Refused(refusal) = answer {
-        return refusals::tell(output, written, refusal);
-    }
-    let after_nodes = put_value(output, written, b"0 nodes ", read.nodes);
-    let after_marks = put_value(output, after_nodes, b" marks ", read.marks);
-    writing::put(output, after_marks, b"\n")
+    let told = plain(
+        *b"0 nodes # marks #.                      ",
+        words(read.nodes, read.marks, 0),
+    );
+    unless_refused(answer, told)
 }

@@ -1,30 +1,37 @@
-// What is wrong with a line, told.
-use crate::writing::put;
-use desk_lines::Fault;
+// The words of what is wrong with a line.
+use crate::writing;
 
-fn put_words(output: &mut [u8], written: usize, fault: Fault) -> usize {
-    match fault {
-        // No line is answered so.
-        Fault::None => written,
-        Fault::LineTooLong => put(output, written, b"line too long"),
-        Fault::NoSuchCommand => put(output, written, b"no such command"),
-        Fault::WordMissing => put(output, written, b"word missing"),
-        Fault::NotANumber => put(output, written, b"not a number"),
-        Fault::NumberAbove => put(output, written, b"number above 4294967295"),
-        Fault::NotASlice => put(output, written, b"not a slice"),
-        Fault::NotAKey => put(output, written, b"not a key"),
-        Fault::NoSuchKey => put(output, written, b"no such key"),
-        Fault::NotAStretch => put(output, written, b"not a stretch"),
-        Fault::TooManyWords => put(output, written, b"too many words"),
-        Fault::NoSuchMemory => put(output, written, b"no such memory"),
-        Fault::NoSuchWord => put(output, written, b"no such word"),
-        Fault::CardFull => put(output, written, b"card full"),
-    }
-}
+const ROW_COUNT: usize = 14;
 
-// `? ` and what is wrong.
-pub fn tell_fault(output: &mut [u8], written: usize, fault: Fault) -> usize {
-    let mark = put(output, written, b"? ");
-    let told = put_words(output, mark, fault);
-    put(output, told, b"\n")
+// How many bytes of a row its number has.
+const NUMBER_WIDTH: usize = 3;
+
+const ROW_WIDTH: usize = 27;
+
+// A row for each fault, in the order of its numbers in `desk_lines`, with its number before its words.
+const ROWS: [u8; ROW_WIDTH * ROW_COUNT] = *b"\
+    0  nothing is wrong.       \
+    1  line too long.          \
+    2  no such command.        \
+    3  word missing.           \
+    4  not a number.           \
+    5  number above 4294967295.\
+    6  not a slice.            \
+    7  not a key.              \
+    8  no such key.            \
+    9  not a stretch.          \
+    10 too many words.         \
+    11 no such memory.         \
+    12 no such word.           \
+    13 card full.              \
+";
+
+pub(crate) fn put_words(output: &mut [u8], written: usize, number: u8) -> usize {
+    let rows = ROWS;
+    writing::put_text(
+        output,
+        written,
+        &rows,
+        number as usize * ROW_WIDTH + NUMBER_WIDTH,
+    )
 }

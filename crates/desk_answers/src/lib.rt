@@ -1,18 +1,24 @@
-// The desk's answers as bytes, put into a buffer that is lent. Nothing is written out here.
+// The desk's answers. Each is a form with values, and `tell` puts it as bytes into a buffer that is lent. Nothing is written out here.
 mod answers;
 mod faults;
+mod forms;
+mod names;
 mod refusals;
+mod telling;
 mod writing;
 
-pub use answers::tell_band;
-pub use answers::tell_change;
-pub use answers::tell_check;
-pub use answers::tell_done;
-pub use answers::tell_edge;
-pub use answers::tell_help;
-pub use answers::tell_node;
-pub use answers::tell_number;
-pub use answers::tell_room;
-pub use answers::tell_scan;
-pub use answers::tell_stab;
-pub use faults::tell_fault;
+pub use answers::band_answer;
+pub use answers::change_answer;
+pub use answers::check_answer;
+pub use answers::done;
+pub use answers::edge_answer;
+pub use answers::fault_answer;
+pub use answers::help_answer;
+pub use answers::node_answer;
+pub use answers::nothing;
+pub use answers::number_answer;
+pub use answers::room_answer;
+pub use answers::scan_answer;
+pub use answers::stab_answer;
+pub use forms::Told;
+pub use telling::tell;

@@ -2,7 +2,10 @@
 // A byte for which there is no room is dropped: whoever lends the buffer sees to room for the longest answer.
 use hall::Band;
 
-fn put_byte(output: &mut [u8], written: usize, byte: u8) -> usize {
+// Ends a text that stands in a wider place.
+pub(crate) const TEXT_END: u8 = b'.';
+
+pub(crate) fn put_byte(output: &mut [u8], written: usize, byte: u8) -> usize {
     if written < output.len() {
         output[written] = byte;
         return written + 1;
@@ -10,35 +13,32 @@ fn put_byte(output: &mut [u8], written: usize, byte: u8) -> usize {
     written
 }
 
-pub(crate) fn put(output: &mut [u8], written: usize, text: &[u8]) -> usize {
+// The text that stands among others from an index on.
+pub(crate) fn put_text(output: &mut [u8], written: usize, texts: &[u8], start: usize) -> usize {
     let mut at = written;
-    let mut from = 0;
-    while from < text.len() {
-        at = put_byte(output, at, text[from]);
+    let mut from = start;
+    while from < texts.len() {
+        let byte = texts[from];
+        if byte == TEXT_END {
+            return at;
+        }
+        at = put_byte(output, at, byte);
         from += 1;
     }
     at
 }
 
-fn put_digits(output: &mut [u8], written: usize, number: u64) -> usize {
+pub(crate) fn put_number(output: &mut [u8], written: usize, number: u64) -> usize {
     let mut digits = [0u8; 20];
     let count = io::decimal(number, &mut digits);
-    put(output, written, &digits[..count])
-}
-
-pub(crate) fn put_number(output: &mut [u8], written: usize, number: u32) -> usize {
-    put_digits(output, written, number as u64)
-}
-
-pub(crate) fn put_place(output: &mut [u8], written: usize, place: usize) -> usize {
-    put_digits(output, written, place as u64)
+    put_text(output, written, &digits[..count], 0)
 }
 
 // The number with a blank before it, if its flag is set.
 fn put_if_flagged(output: &mut [u8], written: usize, flags: &[u64; 16], number: u32) -> usize {
     if flags::is_set(flags, number) {
-        let spaced = put(output, written, b" ");
-        return put_number(output, spaced, number);
+        let spaced = put_byte(output, written, b' ');
+        return put_number(output, spaced, number as u64);
     }
     written
 }

@@ -1,13 +1,9 @@
-// What a line asks of the desk, by kind.
+// What a line asks of the desk, by kind, each with the letters of the table that tell it.
 use crate::faults::Fault;
+use crate::said;
+use crate::said::Said;
 use hall::Band;
 use hall::Key;
-
-pub enum Slice {
-    Bands,
-    Nodes,
-    Marks,
-}
 
 // Which words are lent from here on.
 pub enum Lending {
@@ -15,6 +11,32 @@ pub enum Lending {
     Memory(u32, u32),
     // Words of bands, nodes and marks.
     Lengths(u32, u32, u32),
+}
+
+impl Lending {
+    fn of(which: u8, said: Said) -> Lending {
+        match which {
+            b'm' => Lending::Memory(said[0], said[1]),
+            _ => Lending::Lengths(said[0], said[1], said[2]),
+        }
+    }
+}
+
+pub enum Slice {
+    Bands,
+    Nodes,
+    Marks,
+}
+
+impl Slice {
+    // By the number that `slices.rt` gives it.
+    fn of(number: u32) -> Slice {
+        match number {
+            0 => Slice::Bands,
+            1 => Slice::Nodes,
+            _ => Slice::Marks,
+        }
+    }
 }
 
 // The lent words as words.
@@ -26,6 +48,17 @@ pub enum Poking {
     Sum,
 }
 
+impl Poking {
+    fn of(which: u8, said: Said) -> Poking {
+        match which {
+            b'f' => Poking::Fill(said[0]),
+            b'o' => Poking::Poke(Slice::of(said[0]), said[1], said[2]),
+            b'e' => Poking::Peek(Slice::of(said[0]), said[1]),
+            _ => Poking::Sum,
+        }
+    }
+}
+
 // Calls that change the profile.
 pub enum Change {
     Empty,
@@ -33,6 +66,16 @@ pub enum Change {
     Insert(Band, u32, u32),
     // A number and a scope.
     Remove(u32, u32),
+}
+
+impl Change {
+    fn of(which: u8, said: Said) -> Change {
+        match which {
+            b'i' => Change::Insert(said::band_of(said), said[3], said[4]),
+            b'r' => Change::Remove(said[0], said[1]),
+            _ => Change::Empty,
+        }
+    }
 }
 
 // Calls that change nothing.
@@ -46,6 +89,19 @@ pub enum Question {
     Room,
 }
 
+impl Question {
+    fn of(which: u8, said: Said) -> Question {
+        match which {
+            b's' => Question::Stab(Key(said[0])),
+            b'b' => Question::Band(said[0]),
+            b'e' => Question::Edge(Key(said[0]), said[1]),
+            b'n' => Question::Node(Key(said[0])),
+            b'r' => Question::Room,
+            _ => Question::Check,
+        }
+    }
+}
+
 // The bench card: a list of records of the desk's own.
 pub enum Card {
     Clear,
@@ -53,11 +109,14 @@ pub enum Card {
     Scan(Key),
 }
 
-// What is done with the lent words.
-pub enum Use {
-    Words(Poking),
-    Change(Change),
-    Ask(Question),
+impl Card {
+    fn of(which: u8, said: Said) -> Card {
+        match which {
+            b'a' => Card::Add(said::band_of(said)),
+            b's' => Card::Scan(Key(said[0])),
+            _ => Card::Clear,
+        }
+    }
 }
 
 pub enum Command {
@@ -66,6 +125,21 @@ pub enum Command {
     Wrong(Fault),
     Help,
     Lend(Lending),
-    Use(Use),
+    Words(Poking),
+    Change(Change),
+    Ask(Question),
     Card(Card),
+}
+
+impl Command {
+    pub(crate) fn of(kind: u8, which: u8, said: Said) -> Command {
+        match kind {
+            b'l' => Command::Lend(Lending::of(which, said)),
+            b'w' => Command::Words(Poking::of(which, said)),
+            b'c' => Command::Change(Change::of(which, said)),
+            b'a' => Command::Ask(Question::of(which, said)),
+            b'b' => Command::Card(Card::of(which, said)),
+            _ => Command::Help,
+        }
+    }
 }

@@ -1,14 +1,13 @@
 // The desk's lines: from bytes to the command that they say, or to what is wrong with them. A line is all that is seen here.
-mod bands;
-mod carding;
 mod commands;
 mod faults;
-mod judging;
 mod keys;
 mod numbers;
 mod reading;
+mod said;
 mod slices;
 mod stretches;
+mod table;
 mod words;
 
 pub use commands::Card;
@@ -18,8 +17,8 @@ pub use commands::Lending;
 pub use commands::Poking;
 pub use commands::Question;
 pub use commands::Slice;
-pub use commands::Use;
 pub use faults::Fault;
 pub use reading::LINE_STORE;
-pub use reading::NAMES;
 pub use reading::read_line;
+pub use table::ROW_COUNT;
+pub use table::name_byte;

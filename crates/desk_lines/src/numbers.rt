@@ -1,27 +1,49 @@
 // Numbers as they are written: decimal digits and nothing else.
-use crate::faults;
 use crate::faults::Fault;
-use crate::words;
 
 // The highest number that a word can say.
 const HIGHEST: u64 = 4294967295;
 
-// A number, or what is wrong; beside that stands 0, or the highest where the number is above it.
-pub struct NumberRead {
+// What a byte is taken for that is no digit.
+const NO_DIGIT: u8 = 10;
+
+// The number that a word says, or what is wrong with it; beside that stands 0, or the highest where the number is above it.
+pub struct Read {
     pub fault: Fault,
     pub number: u32,
 }
 
-impl NumberRead {
-    // What is wrong with it, or else with what stands further right.
-    pub(crate) fn fault_or(self, right: Fault) -> Fault {
+impl Read {
+    // Whether the word is a number, be it too high.
+    pub(crate) fn is_number(self) -> bool {
         let fault = self.fault;
-        faults::leftmost(fault, right)
+        if let Fault::NotANumber = fault {
+            false
+        } else {
+            true
+        }
     }
 }
 
-fn wrong(fault: Fault) -> NumberRead {
-    NumberRead { fault, number: 0 }
+pub(crate) fn right(number: u32) -> Read {
+    Read {
+        fault: Fault::None,
+        number,
+    }
+}
+
+pub(crate) fn wrong(fault: Fault) -> Read {
+    Read { fault, number: 0 }
+}
+
+fn digit_of(byte: u8) -> u8 {
+    if byte < b'0' {
+        return NO_DIGIT;
+    }
+    if b'9' < byte {
+        return NO_DIGIT;
+    }
+    byte - b'0'
 }
 
 // A value with a digit more. Above the highest number it only stays above.
@@ -33,45 +55,30 @@ fn with_digit(value: u64, digit: u8) -> u64 {
     }
 }
 
+fn read_as(value: u64) -> Read {
+    if HIGHEST < value {
+        return Read {
+            fault: Fault::NumberAbove,
+            number: HIGHEST as u32,
+        };
+    }
+    right(value as u32)
+}
+
 // Reads all of a word, so that a wrong byte is told even after too many digits.
-pub(crate) fn number_of(word: &[u8]) -> NumberRead {
+pub(crate) fn number_of(word: &[u8]) -> Read {
     if word.len() == 0 {
         return wrong(Fault::NotANumber);
     }
     let mut value: u64 = 0;
     let mut at = 0;
     while at < word.len() {
-        let byte = word[at];
-        if byte < b'0' {
+        let digit = digit_of(word[at]);
+        if digit == NO_DIGIT {
             return wrong(Fault::NotANumber);
         }
-        if b'9' < byte {
-            return wrong(Fault::NotANumber);
-        }
-        value = with_digit(value, byte - b'0');
+        value = with_digit(value, digit);
         at += 1;
     }
     read_as(value)
-}
-
-fn read_as(value: u64) -> NumberRead {
-    if HIGHEST < value {
-        return NumberRead {
-            fault: Fault::NumberAbove,
-            number: HIGHEST as u32,
-        };
-    }
-    NumberRead {
-        fault: Fault::None,
-        number: value as u32,
-    }
-}
-
-// The number that a word of the line says.
-pub(crate) fn number_at(line: &[u8], place: usize) -> NumberRead {
-    let word = words::word(line, place);
-    if word.len() == 0 {
-        return wrong(Fault::WordMissing);
-    }
-    number_of(word)
 }

@@ -71,6 +71,11 @@ pub(crate) fn behind_first(line: &[u8]) -> &[u8] {
     part(line, next_place(line, start, true), line.len())
 }
 
+// The byte at an index; a blank past the end.
+pub(crate) fn byte_or_blank(bytes: &[u8], at: usize) -> u8 {
+    if at < bytes.len() { bytes[at] } else { b' ' }
+}
+
 // Whether a word is this one, byte for byte.
 pub(crate) fn is(word: &[u8], name: &[u8]) -> bool {
     if word.len() != name.len() {

@@ -12,9 +12,9 @@ use Rattle.rules.specs.NodesLanesEdges.{Node, nodeOf}
 use Rattle.rules.specs.Room.{mostNodes}
 use Rattle.store.specs.Places.{nodeField, keyField, levelField, inUse}
 use Rattle.store.specs.SaidProfile.{saidNode}
-use Rattle.laying.specs.Ends.{isNoted}
+use Rattle.linking.specs.EndPlaces.{isNoted}
 use Rattle.drafting.specs.NodeDraft.{draftWords, DraftOf, withOneMore}
-use Rattle.drafting.specs.KeptNodes.{notedNodesFrom, notedNodes}
+use Rattle.drafting.specs.NotedNodes.{notedNodesFrom, notedNodes}
 use Rattle.drafting.proofs.NodeDraft.{none-drafted, draft-in-use, one-more-drafted}
 
 module _ (nodes found : List ℕ) where

@@ -18,10 +18,10 @@ use Rattle.rules.proofs.SoundMemory.{keys-ascend-means}
 use Rattle.store.specs.Sizes.{nodePlaceWords}
 use Rattle.store.specs.Places.{inUse}
 use Rattle.store.specs.SaidProfile.{saidBands, saidNode, saidNodesFrom, saidNodes}
-use Rattle.laying.specs.Ends.{endPlaces, noted, isNoted}
-use Rattle.laying.proofs.EndSteps.{found-alone}
-use Rattle.laying.proofs.EndsStand.{place-of-end-means}
-use Rattle.drafting.specs.KeptNodes.{notedNodesFrom, notedNodes}
+use Rattle.linking.specs.EndPlaces.{endPlaces, noted, isNoted}
+use Rattle.linking.proofs.NotingSteps.{found-alone}
+use Rattle.linking.proofs.EndPlaces.{place-of-end-means}
+use Rattle.drafting.specs.NotedNodes.{notedNodesFrom, notedNodes}
 
 -- where a place is noted exactly when its node passes a test, the nodes noted are those that the test keeps
 noted-are-kept : (nodes found : List ℕ) (test : Node → Bool) (i m : ℕ) → EachLane (λ j. isNoted found j ≡ test (saidNode nodes j)) i m

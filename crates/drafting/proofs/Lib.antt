@@ -1,20 +1,14 @@
 -- What holds of drafts:
---   NodeDraft      the draft of nodes: what it says, one node more, one node rewritten
---   KeptNodes      the nodes noted are those at an end of a band
---   LinkedDraft    the draft once its links are laid
---   FencedDraft    .. and once the header counts lanes and marks and the fences are laid
---   DraftLaid      .. is the node words of its profile
---   FitLines       which of 11 and 12 is given
---   DraftCommitted what comes of a draft: laid into memory, or refused
--- As the code goes about them: PutSteps, KeepSteps, LinkLaying, FenceLaying.
+--   NodeDraft   the draft of nodes: what it says, one node more, one node rewritten
+--   Drafts      the draft of a profile: what it says, and that it is of no other
+--   KeptNodes   the nodes noted are those at an end of a band
+--   WhatStays   what a change leaves of a sound memory, and its draft
+--   EntryDraft  an entry put into the draft of a profile
+-- As the code goes about them: KeepSteps, PutSteps.
 pub mod NodeDraft
+pub mod Drafts
 pub mod KeptNodes
-pub mod LinkedDraft
-pub mod FencedDraft
-pub mod DraftLaid
-pub mod FitLines
-pub mod DraftCommitted
-pub mod PutSteps
+pub mod WhatStays
+pub mod EntryDraft
 pub mod KeepSteps
-pub mod LinkLaying
-pub mod FenceLaying
+pub mod PutSteps

@@ -1,6 +1,5 @@
--- A change as it is drafted: the nodes it leaves, their links and fences, and what comes of the whole.
+-- A change as it is drafted: the draft of nodes, the draft of a whole profile, and what memory leaves of its own.
 pub mod NodeDraft
-pub mod KeptNodes
-pub mod LinkDraft
-pub mod FenceDraft
-pub mod Committed
+pub mod Drafts
+pub mod Leaves
+pub mod NotedNodes

@@ -36,7 +36,7 @@ impl Band {
         past_low & before_high
     }
 
-    // The lowest of 2 to 6 that applies to the band by itself.
+    // The first of 2 to 6 that applies to the band by itself.
     pub fn fault(self) -> Answer
         ensures { λ r. ⌜ answerSays r ≡ bandFault (said self) ⌝ }
     {
@@ -61,7 +61,7 @@ impl Band {
         Answer::Done
     }
 
-    // The lowest of 2 to 7 that applies to the band and the levels given for its ends.
+    // The first of 2 to 7 that applies to the band and the levels given for its ends.
     pub fn fault_with(self, low_level: u32, high_level: u32) -> Answer
         ensures { λ r. ⌜ answerSays r ≡ faultOf (said self) «low_level» «high_level» ⌝ }
     {

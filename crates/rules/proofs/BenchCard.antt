@@ -21,7 +21,8 @@ use Rattle.rules.proofs.Means.{passes-or-fails, itself, denied, same-me
 use Rattle.rules.proofs.Lists.{In, Some, Each, each-cons, all-means, member-means, Distinct, distinct-means, in-middle, in-map}
 use Rattle.rules.proofs.Marks.{in-numbers, numbersOf, length-of-numbers, numbers-stay-apart, numbersHolding}
 use Rattle.rules.proofs.Flags.{flag-set-where-in, count-at-most-flags, count-without-repeats, flags-of-none, count-of-nothing}
-use Rattle.rules.proofs.BoxSaysNo.{lowest-here, lowest-first, lowest-enough, lowest-zero, last-zero, BandRight, band-lines-zero, key-fault-zero, band-fault-zero}
+use Rattle.rules.proofs.FirstLine.{refusal-here, refusal-first, refusal-enough, refusal-zero, last-zero}
+use Rattle.rules.proofs.BoxSaysNo.{BandRight, band-lines-zero, key-fault-zero, band-fault-zero}
 
 -- ---- one record, after some numbers were seen
 
@@ -34,14 +35,14 @@ module _ (seen : List ℕ) (b : Band) where
   -- a band's own fault comes first ..
   pub record-fault-of-band : (bandFault b ≡ 0 → ⊥) → recordFault seen b ≡ bandFault b
   unfolding bandFault recordFault
-  record-fault-of-band h = lowest-enough (bandLines b) (line 8 (member (b .number) seen) ∷ []) h
+  record-fault-of-band h = refusal-enough (bandLines b) (line 8 (member (b .number) seen) ∷ []) h
 
   -- .. and where it has none a number seen before is told by 8
   pub record-fault-twice : BandRight b → In (b .number) seen → recordFault seen b ≡ 8
   unfolding bandFault recordFault
   record-fault-twice r i =
-      lowest-first (bandLines b) (line 8 (member (b .number) seen)) []
-      (lowest-zero (bandLines b) (omega arith) .0 (band-fault-zero b .1 r)) (member-means (b .number) seen .test i)
+      refusal-first (bandLines b) (line 8 (member (b .number) seen)) []
+      (refusal-zero (bandLines b) (omega arith) .0 (band-fault-zero b .1 r)) (member-means (b .number) seen .test i)
 
 -- the order in which numbers were seen plays no part
 fault-in-any-order : (x : ℕ) (xs ys : List ℕ) (b : Band) → recordFault (x ∷ xs ++ ys) b ≡ recordFault (xs ++ x ∷ ys) b
@@ -182,7 +183,7 @@ module _ (cards : List Band) (k : ℕ) where
   -- the key is judged before the records, with place 0
   pub card-key-bad : highestKey < k → cardBad cards k ≡ bad 4 0
   unfolding cardBad keyFault
-  card-key-bad l = rw (lowest-here (keyAbove k) [] (lt-ltb highestKey k l))
+  card-key-bad l = rw (refusal-here (keyAbove k) [] (lt-ltb highestKey k l))
 
   pub card-records-bad : k ≤ highestKey → cardBad cards k ≡ firstBad [] 1 cards
   unfolding cardBad

@@ -1,10 +1,10 @@
--- "When the box says no": what each line of the table says in plain arithmetic and membership,
--- that the lowest number that applies is given, and what a band and each call are like that nothing refuses.
+-- "When the box says no": what each line of the table says in plain arithmetic and membership, what a band and each call are like that nothing
+-- refuses, and what a call comes to, accepted or refused. (Which of several lines is given: FirstLine.)
 -- Assumes nothing.
 use Prim.Native.Nat.{ℕ, zero, suc, _≤_, _<_}
-use mathlib.Core.Path.{_≡_, refl, sym, _∙_, subst}
-use mathlib.Core.Bool.{Bool, true, false, cond}
-use mathlib.Core.Logic.{_↔_, Iff·trans, _⊎_, inl, inr, ⊎-elim}
+use mathlib.Core.Path.{_≡_, refl}
+use mathlib.Core.Bool.{Bool, true, false}
+use mathlib.Core.Logic.{_↔_, Iff·trans, _⊎_}
 use mathlib.Core.List.{List, [], _∷_, _++_}
 use native.Mathlib.Omega.{arith}
 use lib.Dec.{ltb}
@@ -12,16 +12,17 @@ use lib.ListN.{length}
 use borrow.Author.Tests.{eq-eqb, ne-eqb}
 use Rattle.rules.specs.HallLine.{Band, machines, isMachine, highestKey, highestBandNumber, house, holds, holdsWholeKey, withinScope}
 use Rattle.rules.specs.NodesLanesEdges.{lanes, isLevel, standsAt, levelAt}
-use Rattle.rules.specs.Profile.{Profile, emptyProfile, isLive}
+use Rattle.rules.specs.Profile.{Profile, isLive}
 use Rattle.rules.specs.Marks.{marksInUse}
 use Rattle.rules.specs.Changes.{inserted, removed}
 use Rattle.rules.specs.Room.{Room, roomInRange}
-use Rattle.rules.specs.BoxSaysNo.{TableLine, lowest, sizesWrong, notSound, scopeAbove, numberAbove, keyAbove, endAbove, holdsNone, endElsewhere, levelWrong, numberLive, numberNotLive, scopeOther, nodesExceed, marksExceed, notThere, bandLines, keyFault, bandFault, faultOf, insertRefusal, removeRefusal, emptyRefusal, stabRefusal, bandReadRefusal, edgeReadRefusal, nodeReadRefusal, roomReadRefusal, changed, emptyOutcome, insertOutcome, removeOutcome, saying, answered}
-use Rattle.rules.proofs.Means.{Means, Fails, never, passes-or-fails, reworded, itself, denied, not-means, not-fails, and-means, and-fails, and3-means, or-means, or-fails, implies-fails, lt-means, lt-fails, le-means, le-fails, eq-means}
-use Rattle.rules.proofs.Lists.{Some, Each, some-cons, each-cons, any-means, any-fails}
+use Rattle.rules.specs.BoxSaysNo.{TableLine, refusalBy, sizesWrong, notSound, scopeAbove, numberAbove, keyAbove, endAbove, holdsNone, endElsewhere, levelWrong, numberLive, numberNotLive, scopeOther, nodesExceed, marksExceed, notThere, bandLines, keyFault, bandFault, faultOf, fitLines, fitRefusal, insertJudgedLines, removeJudgedLines, insertRefusal, removeRefusal, emptyRefusal, stabRefusal, bandReadRefusal, edgeReadRefusal, nodeReadRefusal, roomReadRefusal, changed, saying, answered}
+use Rattle.rules.proofs.Means.{Means, Fails, reworded, itself, denied, not-means, not-fails, and-means, and-fails, and3-means, or-means, or-fails, implies-fails, lt-means, lt-fails, le-means, le-fails, eq-means}
+use Rattle.rules.proofs.Lists.{Some, Each, any-means, any-fails}
 use Rattle.rules.proofs.HallLine.{Own, own-key-means, holds-whole-key-means}
 use Rattle.rules.proofs.NodesLanesEdges.{Level, is-level-means, NodeAt, NoNodeAt, stands-at-means}
 use Rattle.rules.proofs.Profile.{has-number-means, is-live-means}
+use Rattle.rules.proofs.FirstLine.{line-other, line-own, last-own, line-zero, last-zero, refusal-enough, refusal-then, refusal-neither}
 
 -- ---- each line
 
@@ -39,6 +40,9 @@ sizes-wrong-means s = not-means (itself s)
 
 pub not-sound-means : (sizesRight sound : Bool) → Means (notSound sizesRight sound .applies) ((sizesRight ≡ false) ⊎ (sound ≡ false))
 not-sound-means s t = not-means (and-fails (itself s) (itself t))
+
+pub not-sound-fails : (sizesRight sound : Bool) → Fails (notSound sizesRight sound .applies) ((sizesRight ≡ true) × (sound ≡ true))
+not-sound-fails s t = not-fails (and-means (itself s) (itself t))
 
 -- 2
 pub scope-above-means : (s : ℕ) → Means (scopeAbove s .applies) (house < s)
@@ -110,142 +114,6 @@ module _ (room : Room) (after : Profile) where
   pub marks-exceed-means : Means (marksExceed room after .applies) (room .marks < marksInUse after)
   marks-exceed-means = lt-means (room .marks) (marksInUse after)
 
--- ---- the lowest number that applies
-
--- the first line decides where it applies ..
-pub lowest-here : (l : TableLine) (ls : List TableLine) → l .applies ≡ true → lowest (l ∷ ls) ≡ l .refusal
-lowest-here l ls e = rw e
-
--- .. and where it does not, the others do
-pub lowest-next : (l : TableLine) (ls : List TableLine) → l .applies ≡ false → lowest (l ∷ ls) ≡ lowest ls
-lowest-next l ls e = rw e
-
--- lines of which none applies are passed over
-pub lowest-past : (xs ys : List TableLine) → Each (λ l. l .applies ≡ false) xs → lowest (xs ++ ys) ≡ lowest ys
-lowest-past [] ys h = refl
-lowest-past (l ∷ ls) ys h = lowest-next l (ls ++ ys) (h l (inl refl)) ∙ lowest-past ls ys (λ m i. h m (inr i))
-
--- the first line that applies is given
-pub lowest-first : (xs : List TableLine) (l : TableLine) (ys : List TableLine) → Each (λ m. m .applies ≡ false) xs → l .applies ≡ true
-    → lowest (xs ++ l ∷ ys) ≡ l .refusal
-lowest-first xs l ys h e = lowest-past xs (l ∷ ys) h ∙ lowest-here l ys e
-
--- where lines give a number, lines after them change nothing
-pub lowest-enough : (xs ys : List TableLine) → (lowest xs ≡ 0 → ⊥) → lowest (xs ++ ys) ≡ lowest xs
-lowest-enough [] ys h = absurd (h refl)
-lowest-enough (l ∷ ls) ys h = go (l .applies) refl (lowest-enough ls ys)
-  where
-    go : (t : Bool) → l .applies ≡ t → ((lowest ls ≡ 0 → ⊥) → lowest (ls ++ ys) ≡ lowest ls) → lowest (l ∷ ls ++ ys) ≡ lowest (l ∷ ls)
-    go true e ih = rw e
-    go false e ih = rw e (ih (λ z. h (lowest-next l ls e ∙ z)))
-
--- the lines' numbers ascend, the first at least c; neighbours may have one number
-abbrev pub Ordered : ℕ → List TableLine → Type 0
-Ordered c [] = Unit {0}
-Ordered c (l ∷ ls) = (c ≤ l .refusal) × Ordered (l .refusal) ls
-
-ordered-lower : (c d : ℕ) (ls : List TableLine) → c ≤ d → Ordered d ls → Ordered c ls
-ordered-lower c d [] h o = tt
-ordered-lower c d (l ∷ ls) h o = (omega arith, o .1)
-
-ordered-from : (c : ℕ) (ls : List TableLine) → Ordered c ls → Each (λ l. c ≤ l .refusal) ls
-ordered-from c [] o = λ l i. absurd i
-ordered-from c (l ∷ ls) o = each-cons l ls .1 (o .0, ordered-from c ls (ordered-lower c (l .refusal) ls (o .0) (o .1)))
-
--- a number is given by a line of another number and what is given after it exactly when the line does not apply and the number is given after it
-pub line-other : {a : Bool} {n : ℕ} {X Y : Type 0} (r s : ℕ) → (r ≡ s → ⊥) → Fails a X → (n ≡ s) ↔ Y → (cond a r n ≡ s) ↔ (X × Y)
-line-other {a = true} r s h m e = (λ z. absurd (h z), λ p. never (sym (m .test (p .0))))
-line-other {a = false} r s h m e = (λ z. (m .fact refl, e .0 z), λ p. e .1 (p .1))
-
--- .. and by a line of that number exactly when the line applies or the number is given after it
-pub line-own : {a : Bool} {n : ℕ} {X Y : Type 0} (r : ℕ) → Means a X → (n ≡ r) ↔ Y → (cond a r n ≡ r) ↔ (X ⊎ Y)
-line-own {a = true} r m e = (λ z. inl (m .fact refl), λ s. refl)
-line-own {a = false} r m e = (λ z. inr (e .0 z), ⊎-elim (λ x. never (m .test x)) (e .1))
-
--- the same for the last line
-pub last-own : {a : Bool} {X : Type 0} (r : ℕ) → 0 < r → Means a X → (cond a r 0 ≡ r) ↔ X
-last-own {a = true} r h m = (λ z. m .fact refl, λ x. refl)
-last-own {a = false} r h m = (λ z. absurd (omega arith), λ x. never (m .test x))
-
--- nothing is given by a line and what is given after it exactly when the line does not apply and nothing is given after it
-pub line-zero : {a : Bool} {n : ℕ} {X Y : Type 0} (r : ℕ) → 0 < r → Fails a X → (n ≡ 0) ↔ Y → (cond a r n ≡ 0) ↔ (X × Y)
-line-zero r h = line-other r 0 (λ e. omega arith)
-
--- the same for the last line
-pub last-zero : {a : Bool} {X : Type 0} (r : ℕ) → 0 < r → Fails a X → (cond a r 0 ≡ 0) ↔ X
-last-zero {a = true} r h m = (λ z. absurd (omega arith), λ x. never (sym (m .test x)))
-last-zero {a = false} r h m = (λ z. m .fact refl, λ x. refl)
-
--- of lines in order 0 is given exactly when none applies
-pub lowest-zero : (ls : List TableLine) → Ordered 1 ls → (lowest ls ≡ 0) ↔ Each (λ l. l .applies ≡ false) ls
-lowest-zero [] o = (λ z l i. absurd i, λ h. refl)
-lowest-zero (l ∷ ls) o =
-    let e = line-zero (l .refusal) (o .0) (itself (l .applies)) (lowest-zero ls (ordered-lower 1 (l .refusal) ls (o .0) (o .1))) in
-    (λ z. each-cons l ls .1 (e .0 z), λ h. e .1 (each-cons l ls .0 h))
-
--- a line of that number applies, and no line that applies has a lower number
-abbrev pub Given : List TableLine → ℕ → Type 0
-Given ls n = Some (λ l. (l .applies ≡ true) × (l .refusal ≡ n)) ls × Each (λ l. l .applies ≡ true → n ≤ l .refusal) ls
-
-given : (c : ℕ) (ls : List TableLine) → Ordered c ls → (lowest ls ≡ 0 → ⊥) → Given ls (lowest ls)
-given c [] o h = absurd (h refl)
-given c (l ∷ ls) o h = go (l .applies) refl (given (l .refusal) ls (o .1))
-  where
-    go : (t : Bool) → l .applies ≡ t → ((lowest ls ≡ 0 → ⊥) → Given ls (lowest ls)) → Given (l ∷ ls) (lowest (l ∷ ls))
-    go true e ih =
-        subst (Given (l ∷ ls)) (sym (lowest-here l ls e))
-        ((l, inl refl, (e, refl)), λ m i a. ordered-from (l .refusal) (l ∷ ls) (omega arith, o .1) m i)
-    go false e ih =
-        let g = ih (λ z. h (lowest-next l ls e ∙ z)) in
-        subst (Given (l ∷ ls)) (sym (lowest-next l ls e))
-        (some-cons l ls .1 (inr (g .0)), each-cons l ls .1 (λ a. never (sym e ∙ a), g .1))
-
--- .. and another number exactly when a line of that number applies and none that applies has a lower number
-pub lowest-given : (ls : List TableLine) → Ordered 1 ls → (n : ℕ) → 0 < n → (lowest ls ≡ n) ↔ Given ls n
-lowest-given ls o n h = (λ e. subst (Given ls) e (given 1 ls o (λ z. omega arith)), same)
-  where
-    same : Given ls n → lowest ls ≡ n
-    same g =
-        let g′ = given 1 ls o (λ z. never (sym (lowest-zero ls o .0 z (g .0 .0) (g .0 .1)) ∙ g .0 .2 .0)) in
-        let a = g .1 (g′ .0 .0) (g′ .0 .1) (g′ .0 .2 .0) in
-        let b = g′ .1 (g .0 .0) (g .0 .1) (g .0 .2 .0) in
-        omega arith
-
--- of these lines the number is to be given: 0 where none applies, and else one of that number applies and none that applies has a lower number
-abbrev pub GivenExactly : ℕ → List TableLine → Type 0
-GivenExactly zero ls = Each (λ l. l .applies ≡ false) ls
-GivenExactly (suc n) ls = Given ls (suc n)
-
--- so it is of lines in order
-pub lowest-exactly : (ls : List TableLine) → Ordered 1 ls → (n : ℕ) → (lowest ls ≡ n) ↔ GivenExactly n ls
-lowest-exactly ls o zero = lowest-zero ls o
-lowest-exactly ls o (suc n) = lowest-given ls o (suc n) (omega arith)
-
--- a number above a line's own is given exactly when the line does not apply and the lines after it give the number
-pub line-passed : {X Y : Type 0} {s : ℕ} (l : TableLine) (ls : List TableLine) → l .refusal < s → Fails (l .applies) X → (lowest ls ≡ s) ↔ Y
-    → (lowest (l ∷ ls) ≡ s) ↔ (X × Y)
-line-passed {s} l ls h f e = line-other (l .refusal) s (λ z. omega arith) f e
-
--- lines of higher numbers do not give a number
-not-higher : (r c : ℕ) (ls : List TableLine) → 0 < r → r < c → Ordered c ls → lowest ls ≡ r → ⊥
-not-higher r c [] p h o z = omega arith
-not-higher r c (l ∷ ls) p h o z = go (l .applies) refl (not-higher r (l .refusal) ls p (omega arith) (o .1))
-  where
-    go : (t : Bool) → l .applies ≡ t → (lowest ls ≡ r → ⊥) → ⊥
-    go true e ih = let y = lowest-here l ls e in omega arith
-    go false e ih = ih (sym (lowest-next l ls e) ∙ z)
-
--- before lines of higher numbers a line gives its own exactly when it applies
-pub line-gives : {X : Type 0} (l : TableLine) (ls : List TableLine) → 0 < l .refusal → Ordered (suc (l .refusal)) ls → Means (l .applies) X
-    → (lowest (l ∷ ls) ≡ l .refusal) ↔ X
-line-gives l ls p o f = (
-  λ z. ⊎-elim (f .fact) (λ e. absurd (after (sym (lowest-next l ls e) ∙ z))) (passes-or-fails (l .applies)),
-  λ x. lowest-here l ls (f .test x),
-)
-  where
-    after : lowest ls ≡ l .refusal → ⊥
-    after = not-higher (l .refusal) (suc (l .refusal)) ls p (omega arith) o
-
 -- ---- what nothing refuses
 
 -- a band that is right by 2 to 6
@@ -258,7 +126,8 @@ pub record BandRight (b : Band) : Type 0 where
   pub in-scope : withinScope b ≡ true
 
 -- nothing is given by 2 to 6 and lines after them exactly when the band is right and nothing is given by the lines after them
-pub band-lines-zero : {X : Type 0} (b : Band) (ls : List TableLine) → (lowest ls ≡ 0) ↔ X → (lowest (bandLines b ++ ls) ≡ 0) ↔ (BandRight b × X)
+pub band-lines-zero : {X : Type 0} (b : Band) (ls : List TableLine) → (refusalBy ls ≡ 0) ↔ X
+    → (refusalBy (bandLines b ++ ls) ≡ 0) ↔ (BandRight b × X)
 band-lines-zero b ls e =
     Iff·trans
     (line-zero 2 (omega arith) (lt-fails house (b .scope))
@@ -298,74 +167,122 @@ module _ (b : Band) (lo hi : ℕ) where
   -- a band's own fault comes first ..
   pub fault-of-band : (bandFault b ≡ 0 → ⊥) → faultOf b lo hi ≡ bandFault b
   unfolding bandFault faultOf
-  fault-of-band h = lowest-enough (bandLines b) (levelWrong lo hi ∷ []) h
+  fault-of-band h = refusal-enough (bandLines b) (levelWrong lo hi ∷ []) h
 
   -- .. and where it has none the levels decide
-  pub fault-of-levels : bandFault b ≡ 0 → faultOf b lo hi ≡ lowest (levelWrong lo hi ∷ [])
+  pub fault-of-levels : bandFault b ≡ 0 → faultOf b lo hi ≡ refusalBy (levelWrong lo hi ∷ [])
   unfolding bandFault faultOf
-  fault-of-levels z = lowest-past (bandLines b) (levelWrong lo hi ∷ []) (lowest-zero (bandLines b) (omega arith) .0 z)
+  fault-of-levels z = refusal-then (bandLines b) (levelWrong lo hi ∷ []) (omega arith) z
 
--- an insert that nothing refuses
-pub record InsertAccepted (sizesRight sound : Bool) (room : Room) (p : Profile) (b : Band) (lo hi : ℕ) : Type 0 where
-  pub memory-right : (sizesRight ≡ true) × (sound ≡ true)
+-- neither 11 nor 12 is given exactly when nodes and marks are within the room
+pub fit-refusal-zero : (room : Room) (after : Profile)
+    → (fitRefusal room after ≡ 0) ↔ ((length (after .nodes) ≤ room .nodes) × (marksInUse after ≤ room .marks))
+unfolding fitRefusal
+fit-refusal-zero room after =
+    line-zero 11 (omega arith) (lt-fails (room .nodes) (length (after .nodes)))
+    (last-zero 12 (omega arith) (lt-fails (room .marks) (marksInUse after)))
+
+-- an insert that none of 1 to 8 refuses; Sound says that 1 does not
+pub record InsertJudged (Sound : Type 0) (p : Profile) (b : Band) (lo hi : ℕ) : Type 0 where
+  pub memory-right : Sound
   pub band-right : BandRight b
   pub levels-right : Level lo × Level hi
   pub number-free : Each (λ c. c .number ≡ b .number → ⊥) (p .bands)
+
+-- an insert that nothing refuses
+pub record InsertAccepted (Sound : Type 0) (room : Room) (p : Profile) (b : Band) (lo hi : ℕ) : Type 0 where
+  pub judged : InsertJudged Sound p b lo hi
   pub nodes-fit : length (inserted p b lo hi .nodes) ≤ room .nodes
   pub marks-fit : marksInUse (inserted p b lo hi) ≤ room .marks
 
--- a remove that nothing refuses
-pub record RemoveAccepted (sizesRight sound : Bool) (room : Room) (p : Profile) (number scope : ℕ) : Type 0 where
-  pub memory-right : (sizesRight ≡ true) × (sound ≡ true)
+-- a remove that none of 1, 2, 3, 9 and 10 refuses
+pub record RemoveJudged (Sound : Type 0) (p : Profile) (number scope : ℕ) : Type 0 where
+  pub memory-right : Sound
   pub scope-right : scope ≤ house
   pub number-right : number ≤ highestBandNumber
   pub number-live : Some (λ b. b .number ≡ number) (p .bands)
   pub scope-same : Each (λ b. b .number ≡ number → b .scope ≡ scope) (p .bands)
+
+-- a remove that nothing refuses
+pub record RemoveAccepted (Sound : Type 0) (room : Room) (p : Profile) (number scope : ℕ) : Type 0 where
+  pub judged : RemoveJudged Sound p number scope
   pub marks-fit : marksInUse (removed p number) ≤ room .marks
 
-module _ (sizesRight sound : Bool) (room : Room) (p : Profile) where
-  pub insert-accepted : (b : Band) (lo hi : ℕ) → (insertRefusal sizesRight sound room p b lo hi ≡ 0) ↔ InsertAccepted sizesRight sound room p b lo hi
-  unfolding insertRefusal isLive
-  insert-accepted b lo hi =
+-- what 1 to 8 give of an insert stands ..
+pub insert-by-judged : (sizesRight sound : Bool) (room : Room) (p : Profile) (b : Band) (lo hi : ℕ)
+    → (refusalBy (insertJudgedLines sizesRight sound p b lo hi) ≡ 0 → ⊥)
+    → insertRefusal sizesRight sound room p b lo hi ≡ refusalBy (insertJudgedLines sizesRight sound p b lo hi)
+unfolding insertRefusal
+insert-by-judged sizesRight sound room p b lo hi h =
+    refusal-enough (insertJudgedLines sizesRight sound p b lo hi) (fitLines room (inserted p b lo hi)) h
+
+-- .. and where they give nothing the profile after it decides
+pub insert-by-fit : (sizesRight sound : Bool) (room : Room) (p : Profile) (b : Band) (lo hi : ℕ)
+    → refusalBy (insertJudgedLines sizesRight sound p b lo hi) ≡ 0
+    → insertRefusal sizesRight sound room p b lo hi ≡ fitRefusal room (inserted p b lo hi)
+unfolding insertRefusal fitRefusal
+insert-by-fit sizesRight sound room p b lo hi z =
+    refusal-then (insertJudgedLines sizesRight sound p b lo hi) (fitLines room (inserted p b lo hi)) (omega arith) z
+
+-- what 1, 2, 3, 9 and 10 give of a remove stands (and where they give nothing: `remove-by-fit` of Theory.RemoveRefusals)
+pub remove-by-judged : (sizesRight sound : Bool) (room : Room) (p : Profile) (number scope : ℕ)
+    → (refusalBy (removeJudgedLines sizesRight sound p number scope) ≡ 0 → ⊥)
+    → removeRefusal sizesRight sound room p number scope ≡ refusalBy (removeJudgedLines sizesRight sound p number scope)
+unfolding removeRefusal
+remove-by-judged sizesRight sound room p number scope h =
+    refusal-enough (removeJudgedLines sizesRight sound p number scope) (marksExceed room (removed p number) ∷ []) h
+
+module _ (sizesRight sound : Bool) {Sound : Type 0} (right : Fails (notSound sizesRight sound .applies) Sound) where
+  pub insert-judged-zero : (p : Profile) (b : Band) (lo hi : ℕ)
+      → (refusalBy (insertJudgedLines sizesRight sound p b lo hi) ≡ 0) ↔ InsertJudged Sound p b lo hi
+  unfolding isLive
+  insert-judged-zero p b lo hi =
       Iff·trans
-      (line-zero 1 (omega arith) (not-fails (and-means (itself sizesRight) (itself sound)))
-      (band-lines-zero b
-      (levelWrong lo hi ∷ numberLive p (b .number) ∷ nodesExceed room (inserted p b lo hi) ∷ marksExceed room (inserted p b lo hi) ∷ [])
+      (line-zero 1 (omega arith) right
+      (band-lines-zero b (levelWrong lo hi ∷ numberLive p (b .number) ∷ [])
       (line-zero 7 (omega arith) (not-fails (and-means (is-level-means lo) (is-level-means hi)))
-      (line-zero 8 (omega arith) (any-fails (λ c. denied (has-number-means (b .number) c)) (p .bands))
-      (line-zero 11 (omega arith) (lt-fails (room .nodes) (length (inserted p b lo hi .nodes)))
-      (last-zero 12 (omega arith) (lt-fails (room .marks) (marksInUse (inserted p b lo hi))))))))) (
-        λ h. record {
-          memory-right = h .0;
-          band-right = h .1 .0;
-          levels-right = h .1 .1 .0;
-          number-free = h .1 .1 .1 .0;
-          nodes-fit = h .1 .1 .1 .1 .0;
-          marks-fit = h .1 .1 .1 .1 .1;
-        },
-        λ t. (t .memory-right, (t .band-right, (t .levels-right, (t .number-free, (t .nodes-fit, t .marks-fit))))),
+      (last-zero 8 (omega arith) (any-fails (λ c. denied (has-number-means (b .number) c)) (p .bands)))))) (
+        λ h. record { memory-right = h .0; band-right = h .1 .0; levels-right = h .1 .1 .0; number-free = h .1 .1 .1 },
+        λ t. (t .memory-right, (t .band-right, (t .levels-right, t .number-free))),
       )
 
-  pub remove-accepted : (number scope : ℕ) → (removeRefusal sizesRight sound room p number scope ≡ 0) ↔ RemoveAccepted sizesRight sound room p number scope
-  unfolding removeRefusal
-  remove-accepted number scope =
+  pub remove-judged-zero : (p : Profile) (number scope : ℕ)
+      → (refusalBy (removeJudgedLines sizesRight sound p number scope) ≡ 0) ↔ RemoveJudged Sound p number scope
+  remove-judged-zero p number scope =
       Iff·trans
-      (line-zero 1 (omega arith) (not-fails (and-means (itself sizesRight) (itself sound)))
+      (line-zero 1 (omega arith) right
       (line-zero 2 (omega arith) (lt-fails house scope)
       (line-zero 3 (omega arith) (lt-fails highestBandNumber number)
       (line-zero 9 (omega arith) (not-fails (is-live-means number (p .bands)))
-      (line-zero 10 (omega arith) (any-fails (λ b. implies-fails (has-number-means number b) (eq-means (b .scope) scope)) (p .bands))
-      (last-zero 12 (omega arith) (lt-fails (room .marks) (marksInUse (removed p number))))))))) (
+      (last-zero 10 (omega arith) (any-fails (λ b. implies-fails (has-number-means number b) (eq-means (b .scope) scope)) (p .bands))))))) (
         λ h. record {
           memory-right = h .0;
           scope-right = h .1 .0;
           number-right = h .1 .1 .0;
           number-live = h .1 .1 .1 .0;
-          scope-same = h .1 .1 .1 .1 .0;
-          marks-fit = h .1 .1 .1 .1 .1;
+          scope-same = h .1 .1 .1 .1;
         },
-        λ t. (t .memory-right, (t .scope-right, (t .number-right, (t .number-live, (t .scope-same, t .marks-fit))))),
+        λ t. (t .memory-right, (t .scope-right, (t .number-right, (t .number-live, t .scope-same)))),
       )
+
+  pub insert-accepted : (room : Room) (p : Profile) (b : Band) (lo hi : ℕ)
+      → (insertRefusal sizesRight sound room p b lo hi ≡ 0) ↔ InsertAccepted Sound room p b lo hi
+  unfolding insertRefusal fitRefusal
+  insert-accepted room p b lo hi =
+      Iff·trans
+      (refusal-neither (insertJudgedLines sizesRight sound p b lo hi) (fitLines room (inserted p b lo hi)) (omega arith)
+      (insert-judged-zero p b lo hi) (fit-refusal-zero room (inserted p b lo hi)))
+      (λ h. record { judged = h .0; nodes-fit = h .1 .0; marks-fit = h .1 .1 }, λ t. (t .judged, (t .nodes-fit, t .marks-fit)))
+
+  pub remove-accepted : (room : Room) (p : Profile) (number scope : ℕ)
+      → (removeRefusal sizesRight sound room p number scope ≡ 0) ↔ RemoveAccepted Sound room p number scope
+  unfolding removeRefusal
+  remove-accepted room p number scope =
+      Iff·trans
+      (refusal-neither (removeJudgedLines sizesRight sound p number scope) (marksExceed room (removed p number) ∷ []) (omega arith)
+      (remove-judged-zero p number scope)
+      (last-zero 12 (omega arith) (lt-fails (room .marks) (marksInUse (removed p number)))))
+      (λ h. record { judged = h .0; marks-fit = h .1 }, λ t. (t .judged, t .marks-fit))
 
 module _ (sizesRight : Bool) where
   pub empty-accepted : (emptyRefusal sizesRight ≡ 0) ↔ (sizesRight ≡ true)
@@ -450,32 +367,8 @@ pub same-answered : {A : Type 0} (refusal : ℕ) (zeros a b : A) → (refusal �
 same-answered zero zeros a b h = rw (h refl)
 same-answered (suc r) zeros a b h = rw (ne-eqb (suc r) 0 (λ z. omega arith))
 
--- what is so before a change, and after it where nothing refuses it, is so of what the change comes to
+-- what is so before a change, and after it where nothing refuses it, is so of what the change comes to, whatever the change
 pub change-keeps : {A : Type 0} (P : A → Type 0) (refusal : ℕ) (before after : A) → P before → (refusal ≡ 0 → P after)
     → P (changed refusal before after .after)
 change-keeps P zero before after b a = a refl
 change-keeps P (suc r) before after b a = rw (refused-unchanged (suc r) before after (λ z. omega arith)) b
-
--- the same of making an empty profile ..
-pub empty-keeps : (P : Profile → Type 0) (sizesRight : Bool) (p : Profile) → P p → (sizesRight ≡ true → P emptyProfile)
-    → P (emptyOutcome sizesRight p .after)
-unfolding emptyOutcome
-empty-keeps P sizesRight p before after =
-    change-keeps P (emptyRefusal sizesRight) p emptyProfile before (λ z. after (empty-accepted sizesRight .0 z))
-
-module _ (P : Profile → Type 0) (sizesRight sound : Bool) (room : Room) (p : Profile) where
-  -- .. of an insert ..
-  pub insert-keeps : (b : Band) (lo hi : ℕ) → P p → (InsertAccepted sizesRight sound room p b lo hi → P (inserted p b lo hi))
-      → P (insertOutcome sizesRight sound room p b lo hi .after)
-  unfolding insertOutcome
-  insert-keeps b lo hi before after =
-      change-keeps P (insertRefusal sizesRight sound room p b lo hi) p (inserted p b lo hi) before
-      (λ z. after (insert-accepted sizesRight sound room p b lo hi .0 z))
-
-  -- .. and of a remove
-  pub remove-keeps : (number scope : ℕ) → P p → (RemoveAccepted sizesRight sound room p number scope → P (removed p number))
-      → P (removeOutcome sizesRight sound room p number scope .after)
-  unfolding removeOutcome
-  remove-keeps number scope before after =
-      change-keeps P (removeRefusal sizesRight sound room p number scope) p (removed p number) before
-      (λ z. after (remove-accepted sizesRight sound room p number scope .0 z))

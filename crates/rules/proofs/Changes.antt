@@ -136,6 +136,16 @@ module _ (f : Band → Bool) (p : Profile) where
   unfolding withoutWhere nodesAtEnds
   nodes-left-ascend c a = ascends-keep (λ n. n .key) (λ n. isEndOfSome (withoutWhere f p .bands) (n .key)) c (p .nodes) a
 
+  -- there are no more nodes than before
+  pub nodes-left-no-more : length (withoutWhere f p .nodes) ≤ length (p .nodes)
+  unfolding withoutWhere nodesAtEnds
+  nodes-left-no-more = length-keep _ (p .nodes)
+
+  -- no band comes or goes that is not so, where those that pass are
+  pub without-keeps-others : {Q : Band → Type 0} → ((b : Band) → Means (f b) (Q b)) → (P : Band → Type 0) → Each (λ b. Q b → P b) (p .bands)
+      → SameBut P p (withoutWhere f p)
+  without-keeps-others m P h b off = (λ j. in-bands-left m b .1 (j, λ q. off (h b j q)), λ i. in-bands-left m b .0 i .0)
+
 module _ (p : Profile) (number : ℕ) where
   -- a band of another number
   pub in-removed-bands : (b : Band) → In b (removed p number .bands) ↔ (In b (p .bands) × (b .number ≡ number → ⊥))
@@ -157,9 +167,10 @@ module _ (p : Profile) (number : ℕ) where
 
   -- after a remove there are no more nodes than before
   pub removed-nodes-no-more : length (removed p number .nodes) ≤ length (p .nodes)
-  unfolding removed withoutWhere nodesAtEnds
-  removed-nodes-no-more = length-keep _ (p .nodes)
+  unfolding removed
+  removed-nodes-no-more = nodes-left-no-more (hasNumber number) p
 
   -- no band comes or goes that is not so, whatever the bands of the number are
   pub remove-keeps-others : (P : Band → Type 0) → Each (λ b. b .number ≡ number → P b) (p .bands) → SameBut P p (removed p number)
-  remove-keeps-others P h b off = (λ j. in-removed-bands b .1 (j, λ e. off (h b j e)), λ i. in-removed-bands b .0 i .0)
+  unfolding removed
+  remove-keeps-others = without-keeps-others (hasNumber number) p (has-number-means number)

@@ -1,14 +1,19 @@
--- Which of 2 to 7 is given of a band and the levels of its ends, from plain facts on its numbers: a law for each answer that judging code comes to.
+-- Which of 2 to 7 is given of a band and the levels of its ends, and which of 11 and 12 of the profile after a change, from plain facts on numbers:
+-- a law for each answer that judging code comes to.
 -- Assumes nothing.
 use Prim.Native.Nat.{ℕ, _≤_, _<_}
 use mathlib.Core.Path.{_≡_}
 use mathlib.Core.Bool.{true, false}
 use mathlib.Core.List.{[], _∷_}
+use lib.ListN.{length}
 use borrow.Author.Tests.{lt-ltb, le-ltb}
 use Rattle.rules.specs.Connectives.{_and_, _or_}
 use Rattle.rules.specs.HallLine.{Band, highestKey, highestBandNumber, house, holdsWholeKey, withinScope}
 use Rattle.rules.specs.NodesLanesEdges.{isLevel}
-use Rattle.rules.specs.BoxSaysNo.{lowest, holdsNone, endElsewhere, bandFault, faultOf}
+use Rattle.rules.specs.Profile.{Profile}
+use Rattle.rules.specs.Marks.{marksInUse}
+use Rattle.rules.specs.Room.{Room}
+use Rattle.rules.specs.BoxSaysNo.{refusalBy, holdsNone, endElsewhere, bandFault, faultOf, fitRefusal}
 use Rattle.rules.proofs.BoxSaysNo.{fault-of-levels}
 
 -- no number of the band is above its highest
@@ -37,7 +42,7 @@ module _ (b : Band) where
 
   module _ (r : NoneAbove b) where
     -- the lines that are left
-    left : bandFault b ≡ lowest (holdsNone b ∷ endElsewhere b ∷ [])
+    left : bandFault b ≡ refusalBy (holdsNone b ∷ endElsewhere b ∷ [])
     unfolding bandFault _or_
     left = rw (le-ltb _ _ (r .scope), le-ltb _ _ (r .number), le-ltb _ _ (r .low), le-ltb _ _ (r .high))
 
@@ -56,3 +61,12 @@ module _ (b : Band) (low high : ℕ) (none : bandFault b ≡ 0) where
 
   pub by-none-of-all : (isLevel low and isLevel high) ≡ true → 0 ≡ faultOf b low high
   by-none-of-all right = rw (fault-of-levels b low high none, right)
+
+module _ (room : Room) (after : Profile) where
+  pub by-11 : room .nodes < length (after .nodes) → 11 ≡ fitRefusal room after
+  unfolding fitRefusal
+  by-11 over = rw (lt-ltb _ _ over)
+
+  pub by-12 : length (after .nodes) ≤ room .nodes → room .marks < marksInUse after → 12 ≡ fitRefusal room after
+  unfolding fitRefusal
+  by-12 few over = rw (le-ltb _ _ few, lt-ltb _ _ over)

@@ -1,5 +1,6 @@
 -- What the definitions mean, and what follows from them. A file here bears the name of the file of specs/ whose laws it holds; besides,
--- Means has the form of those laws, Sums the laws of sums and counts, and Connectives and Faults hold laws in the form that code asks for.
+-- Means has the form of those laws, Sums the laws of sums and counts, FirstLine which of several lines of the table is given, and Connectives and
+-- Faults hold laws in the form that code asks for. InsertRefused, RemoveRefused and OthersRefused say of each call in plain words when it gives which number.
 -- The theory of lanes and marks, which builds on these files, stands in Theory/, with its own index.
 pub mod Means
 pub mod Lists
@@ -13,8 +14,13 @@ pub mod Flags
 pub mod Search
 pub mod Changes
 pub mod Readouts
+pub mod FirstLine
 pub mod BoxSaysNo
 pub mod Faults
+pub mod InsertRefused
+pub mod RemoveRefused
+pub mod OthersRefused
+pub mod RuledCalls
 pub mod SoundMemory
 pub mod BenchCard
 pub mod Reach

@@ -11,17 +11,16 @@ use native.Mathlib.Omega.{arith}
 use lib.Dec.{eqb}
 use Rattle.rules.specs.Connectives.{_and_}
 use Rattle.rules.specs.Lists.{keep}
-use Rattle.rules.specs.HallLine.{highestKey, machines, partsInRange, keyOf}
+use Rattle.rules.specs.HallLine.{Band, highestKey, machines, partsInRange, keyOf}
 use Rattle.rules.specs.NodesLanesEdges.{Node, nodeOf, Edge, edgeOf, edgesIn, lanes}
 use Rattle.rules.specs.Profile.{Profile}
 use Rattle.rules.specs.Marks.{markedOnEdge, markedOnNode}
 use Rattle.rules.specs.Search.{stabOf}
-use Rattle.rules.specs.Reach.{present, presentBoth, madeOrDropped, Stretch, nearestBefore, nearestAfter, stretchOf, liesIn, strictlyInside, edgeReached, keyReached, edgeBears, nodeBears, answersAlike, OthersAlike, losesInLane, losesOnNode, keepsMarks, reachesOnlyStretches}
+use Rattle.rules.specs.Reach.{present, presentBoth, madeOrDropped, Stretch, nearestBefore, nearestAfter, stretchOf, liesIn, strictlyInside, edgeReached, keyReached, edgeBears, nodeBears, answersAlike, OthersAlike, losesInLane, losesOnNode, keepsMarks, othersKeepMarks, reachesOnlyStretches}
 use Rattle.rules.proofs.Means.{Means, Fails, reworded, denied, not-means, and-means, and3-means, or-means, then-fails, implies-fails, lt-means, le-means, eq-means, at-most-or-above}
 use Rattle.rules.proofs.Lists.{In, Some, Each, each-cons, any-means, any-fails, all-means, find-means, member-means, same-numbers-means, in-kept, some-or-none, in-append, lane-fails}
 use Rattle.rules.proofs.HallLine.{parts-in-range-means, key-is-its-machines}
 use Rattle.rules.proofs.NodesLanesEdges.{NodeAt, stands-at-means}
-use Rattle.rules.proofs.Profile.{has-number-means}
 
 -- ---- nodes made, dropped and present throughout
 
@@ -226,20 +225,28 @@ module _ (both touched : List Node) (p q : Profile) (number : ℕ) where
       (λ h. (λ i l. h .0 i (omega arith) (omega arith), h .1))
       (λ h. (λ i l u. h .0 i (omega arith), h .1))
 
--- bands other than the call's keep all such marks from p to q, and gain none
-abbrev pub OnlyStretchesReached : ℕ → Profile → Profile → Type 0
-OnlyStretchesReached number p q =
-    Each (λ b. (b .number ≡ number) ⊎ KeepsMarks (presentBoth (p .nodes) (q .nodes)) (madeOrDropped (p .nodes) (q .nodes)) p q (b .number)) (p .bands)
-    × Each (λ b. (b .number ≡ number) ⊎ KeepsMarks (presentBoth (p .nodes) (q .nodes)) (madeOrDropped (p .nodes) (q .nodes)) q p (b .number)) (q .bands)
+-- bands other than the call's own keep all such marks from p to q, and gain none
+abbrev pub OthersKeepMarks : (Band → Type 0) → List Node → List Node → Profile → Profile → Type 0
+OthersKeepMarks Own both touched p q =
+    Each (λ b. Own b ⊎ KeepsMarks both touched p q (b .number)) (p .bands)
+    × Each (λ b. Own b ⊎ KeepsMarks both touched q p (b .number)) (q .bands)
 
-pub reaches-only-stretches-means : (number : ℕ) (p q : Profile) → Means (reachesOnlyStretches number p q) (OnlyStretchesReached number p q)
-unfolding reachesOnlyStretches
-reaches-only-stretches-means number p q =
-    let both : List Node = presentBoth (p .nodes) (q .nodes) in
-    let touched : List Node = madeOrDropped (p .nodes) (q .nodes) in
-    and-means
-    (all-means (λ b. or-means (has-number-means number b) (keeps-marks-means both touched p q (b .number))) (p .bands))
-    (all-means (λ b. or-means (has-number-means number b) (keeps-marks-means both touched q p (b .number))) (q .bands))
+-- .. with the nodes present both before and after and those made or dropped
+abbrev pub OnlyStretchesReached : (Band → Type 0) → Profile → Profile → Type 0
+OnlyStretchesReached Own p q = OthersKeepMarks Own (presentBoth (p .nodes) (q .nodes)) (madeOrDropped (p .nodes) (q .nodes)) p q
+
+module _ {own : Band → Bool} {Own : Band → Type 0} (m : (b : Band) → Means (own b) (Own b)) where
+  pub others-keep-marks-means : (both touched : List Node) (p q : Profile)
+      → Means (othersKeepMarks own both touched p q) (OthersKeepMarks Own both touched p q)
+  unfolding othersKeepMarks
+  others-keep-marks-means both touched p q =
+      and-means
+      (all-means (λ b. or-means (m b) (keeps-marks-means both touched p q (b .number))) (p .bands))
+      (all-means (λ b. or-means (m b) (keeps-marks-means both touched q p (b .number))) (q .bands))
+
+  pub reaches-only-stretches-means : (p q : Profile) → Means (reachesOnlyStretches own p q) (OnlyStretchesReached Own p q)
+  unfolding reachesOnlyStretches
+  reaches-only-stretches-means p q = others-keep-marks-means (presentBoth (p .nodes) (q .nodes)) (madeOrDropped (p .nodes) (q .nodes)) p q
 
 -- two profiles answer the same at a key
 pub answers-alike-means : (p q : Profile) (k : ℕ)

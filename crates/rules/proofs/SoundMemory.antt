@@ -1,21 +1,22 @@
 -- "Sound memory", as far as it speaks of the profile: a standing profile as a record of plain facts, and when one fits its room.
 -- Assumes nothing.
 use Prim.Native.Nat.{ℕ, suc, _≤_}
-use mathlib.Core.Path.{refl}
+use mathlib.Core.Path.{_≡_, refl}
+use mathlib.Core.Bool.{true}
 use mathlib.Core.List.{List, [], _∷_}
 use lib.ListN.{length}
 use Rattle.rules.specs.HallLine.{Band}
 use Rattle.rules.specs.NodesLanesEdges.{Node}
 use Rattle.rules.specs.Profile.{Profile}
 use Rattle.rules.specs.Marks.{marksInUse}
-use Rattle.rules.specs.Room.{Room}
-use Rattle.rules.specs.BoxSaysNo.{bandFault}
+use Rattle.rules.specs.Room.{Room, roomInRange}
+use Rattle.rules.specs.BoxSaysNo.{bandFault, fitRefusal}
 use Rattle.rules.specs.SoundMemory.{numbersAscend, bandsRight, keysAscend, levelsRight, standing, fits, soundIn}
 use Rattle.rules.proofs.Means.{Means, reworded, and-means, and3-means, le-means, eq-means}
 use Rattle.rules.proofs.Lists.{Some, Each, all-means}
 use Rattle.rules.proofs.NodesLanesEdges.{Asc, Level, NodeAt, EndOf, is-level-means, ends-stand-means, only-ends-stand-means}
 use Rattle.rules.proofs.Profile.{NumbersAsc}
-use Rattle.rules.proofs.BoxSaysNo.{room-in-range-means, BandRight, band-fault-zero}
+use Rattle.rules.proofs.BoxSaysNo.{room-in-range-means, BandRight, band-fault-zero, fit-refusal-zero}
 
 pub numbers-ascend-means : (c : ℕ) (bs : List Band) → Means (numbersAscend c bs) (NumbersAsc c bs)
 numbers-ascend-means c [] = record { fact = λ e. tt; test = λ a. refl }
@@ -84,3 +85,13 @@ SoundIn room p = Standing p × Fitting room p
 pub sound-in-means : (room : Room) (p : Profile) → Means (soundIn room p) (SoundIn room p)
 unfolding soundIn
 sound-in-means room p = and-means (standing-means p) (fits-means room p)
+
+-- so a standing profile is sound in a room that is in range where neither 11 nor 12 is given of it
+pub sound-where-fits : (room : Room) (p : Profile) → roomInRange room ≡ true → standing p ≡ true → fitRefusal room p ≡ 0 → soundIn room p ≡ true
+sound-where-fits room p range stands z =
+    let in-range = room-in-range-means room .fact range in
+    let within = fit-refusal-zero room p .0 z in
+    sound-in-means room p .test (
+      standing-means p .fact stands,
+      record { node-room = in-range .0; mark-room = in-range .1; nodes-fit = within .0; marks-fit = within .1 },
+    )

@@ -8,7 +8,7 @@ use Rattle.rules.specs.Lists.{member}
 use Rattle.rules.specs.HallLine.{Band, holds}
 use Rattle.rules.specs.Marks.{numbersWhere}
 use Rattle.rules.specs.Flags.{flagsOf, countOf}
-use Rattle.rules.specs.BoxSaysNo.{lowest, line, bandLines, keyFault}
+use Rattle.rules.specs.BoxSaysNo.{refusalBy, line, bandLines, keyFault}
 
 -- what is wrong, and at which place, counted from 1; 0 for none
 pub record Bad : Type 0 where
@@ -20,7 +20,7 @@ bad n p = record { refusal = n; place = p }
 
 -- each record is judged by 2 to 6, and no number stands twice: 8, told at the later one
 unfoldable pub recordFault : List ℕ → Band → ℕ
-recordFault seen b = lowest (bandLines b ++ line 8 (member (b .number) seen) ∷ [])
+recordFault seen b = refusalBy (bandLines b ++ line 8 (member (b .number) seen) ∷ [])
 
 -- the first bad place among the records from a place on, after those numbers were seen
 abbrev pub firstBad : List ℕ → ℕ → List Band → Bad

@@ -20,8 +20,9 @@ use Rattle.rules.specs.Room.{Room}
 use Rattle.rules.specs.SoundMemory.{soundIn}
 use Rattle.rules.specs.BoxSaysNo.{emptyOutcome, stabAnswer, bandReadAnswer, edgeReadAnswer, nodeReadAnswer, roomReadAnswer}
 use Rattle.rules.specs.BenchCard.{scanOf}
-use Rattle.rules.specs.Reach.{answersAlike, stretchOf, reachesOnlyStretches}
-use Rattle.rules.specs.BenchProfile.{Call, insert, remove, callOf}
+use Rattle.rules.specs.Calls.{Call}
+use Rattle.rules.specs.Reach.{answersAlike, stretchOf, reachesOnlyStretches, ofCall}
+use Rattle.rules.specs.BenchProfile.{callOf}
 
 -- a question and the answer expected; a Bool before a profile says whether sizes are right
 pub data Row : Type 0 where
@@ -67,8 +68,8 @@ pub data Row : Type 0 where
   refused : Room → Profile → Call → ℕ → Row
   -- among these nodes the stretch of the node runs from the one key to the other
   runs : List Node → Node → ℕ → ℕ → Row
-  -- from the one profile to the other, bands but that of the number keep their marks outside the stretches, or do not
-  near : ℕ → Profile → Profile → Bool → Row
+  -- from the one profile to the other, bands but those that pass keep their marks outside the stretches, or do not
+  near : (Band → Bool) → Profile → Profile → Bool → Row
   -- both profiles answer alike at the key, or do not
   alike : Profile → Profile → ℕ → Bool → Row
   -- the bench card of these bands, asked for a key: refusal, place, numbers flagged
@@ -147,11 +148,6 @@ inUseIs sizesRight p refusal n m =
     and eqb (roomReadAnswer sizesRight p .read .nodes) n
     and eqb (roomReadAnswer sizesRight p .read .marks) m
 
--- the number that a call names
-abbrev pub callNumber : Call → ℕ
-callNumber (insert b l h) = b .number
-callNumber (remove n s) = n
-
 -- the rules answer as expected
 abbrev pub rowRight : Row → Bool
 rowRight (gives given expected) = eqb given expected
@@ -187,13 +183,13 @@ rowRight (notEmptied p) =
 rowRight (accepted room p c bs ns m) =
     eqb (callOf room p c .refusal) 0
     and profileIs room (callOf room p c .after) bs ns m
-    and reachesOnlyStretches (callNumber c) p (callOf room p c .after)
+    and reachesOnlyStretches (ofCall c) p (callOf room p c .after)
 rowRight (refused room p c number) =
     eqb (callOf room p c .refusal) number
     and sameBands (callOf room p c .after .bands) (p .bands)
     and sameNodes (callOf room p c .after .nodes) (p .nodes)
 rowRight (runs ns n from to) = eqb (stretchOf ns n .from) from and eqb (stretchOf ns n .to) to
-rowRight (near number p q expected) = Bool·beq (reachesOnlyStretches number p q) expected
+rowRight (near own p q expected) = Bool·beq (reachesOnlyStretches own p q) expected
 rowRight (alike p q k expected) = Bool·beq (answersAlike p q k) expected
 rowRight (card bs k number place ns) =
     eqb (scanOf bs k .refusal) number

@@ -6,10 +6,11 @@ use mathlib.Core.List.{List, [], _∷_, _++_}
 use mathlib.Core.Option.{none, some}
 use Rattle.rules.specs.HallLine.{Band, house, keyOf, firstKey, partsInRange}
 use Rattle.rules.specs.NodesLanesEdges.{Node, nodeOf, edgeOf}
-use Rattle.rules.specs.Profile.{profileOf, emptyProfile}
+use Rattle.rules.specs.Profile.{profileOf, emptyProfile, hasNumber, hasScope}
 use Rattle.rules.specs.Room.{roomOf}
 use Rattle.rules.specs.BoxSaysNo.{bandFault, stabRefusal}
-use Rattle.rules.specs.BenchProfile.{closed, openLow, openHigh, open′, insert, remove, callOf, wide, bench, p9, tall, twins, beside, lifted, middle, high, first, firstOpen, mixed, around, bench260, bench300, nextTo}
+use Rattle.rules.specs.Calls.{inserting, removing}
+use Rattle.rules.specs.BenchProfile.{closed, openLow, openHigh, open′, callOf, wide, bench, p9, tall, twins, beside, lifted, middle, high, first, firstOpen, mixed, around, bench260, bench300, nextTo, mapped, remapped}
 use Rattle.rules.specs.BenchRow.{Row, gives, says, held, is, sound, marks, lane, walked, stab, meets, noStab, band, noBand, edge, noEdge, node, noNode, inUse, noInUse, emptied, notEmptied, accepted, refused, runs, near, alike, card}
 
 -- The bench profile itself, P1 to P10, and what each leaves.
@@ -41,7 +42,7 @@ benchRows =
     -- P7
     ∷ stab bench 1000 [] 11
     -- P8: nodes 200 and 300 go, 14 marks stay
-    ∷ accepted wide bench (remove 3 0)
+    ∷ accepted wide bench (removing 3 0)
     (closed 1 0 100 400 ∷ openLow 2 0 400 900 ∷ closed 4 0 250 250 ∷ openHigh 5 0 100 900 ∷ [])
     (nodeOf 100 1 ∷ nodeOf 250 1 ∷ nodeOf 400 1 ∷ nodeOf 900 2 ∷ [])
     14
@@ -50,17 +51,17 @@ benchRows =
     (closed 1 0 10 50 ∷ closed 2 0 20 20 ∷ closed 3 0 30 30 ∷ closed 4 0 40 40 ∷ [])
     (nodeOf 10 2 ∷ nodeOf 20 1 ∷ nodeOf 30 1 ∷ nodeOf 40 2 ∷ nodeOf 50 1 ∷ [])
     8
-    ∷ accepted (roomOf 5 9) (p9 wide) (remove 4 0)
+    ∷ accepted (roomOf 5 9) (p9 wide) (removing 4 0)
     (closed 1 0 10 50 ∷ closed 2 0 20 20 ∷ closed 3 0 30 30 ∷ [])
     (nodeOf 10 2 ∷ nodeOf 20 1 ∷ nodeOf 30 1 ∷ nodeOf 50 1 ∷ [])
     9
-    ∷ refused (roomOf 5 8) (p9 (roomOf 5 8)) (remove 4 0) 12
+    ∷ refused (roomOf 5 8) (p9 (roomOf 5 8)) (removing 4 0) 12
     -- P10: 2,097,151 is taken, as a band's end and by a stab; 2,097,152 is refused by 4 in both
-    ∷ accepted wide emptyProfile (insert (closed 0 63 2097000 2097151) 1 1)
+    ∷ accepted wide emptyProfile (inserting (closed 0 63 2097000 2097151) 1 1)
     (closed 0 63 2097000 2097151 ∷ [])
     (nodeOf 2097000 1 ∷ nodeOf 2097151 1 ∷ [])
     3
-    ∷ refused wide emptyProfile (insert (closed 0 63 2097000 2097152) 1 1) 4
+    ∷ refused wide emptyProfile (inserting (closed 0 63 2097000 2097152) 1 1) 4
     ∷ stab bench 2097151 [] 11
     ∷ noStab true bench 2097152 4
     ∷ []
@@ -82,12 +83,12 @@ errorRows =
     ∷ edge twins 10 2 (some 50) (1 ∷ [])
     ∷ edge twins 10 1 (some 50) []
     -- dropping a node when one of several bands ending there is removed
-    ∷ accepted wide bench (remove 1 0)
+    ∷ accepted wide bench (removing 1 0)
     (openLow 2 0 400 900 ∷ closed 3 0 200 300 ∷ closed 4 0 250 250 ∷ openHigh 5 0 100 900 ∷ [])
     (nodeOf 100 1 ∷ nodeOf 200 3 ∷ nodeOf 250 1 ∷ nodeOf 300 2 ∷ nodeOf 400 1 ∷ nodeOf 900 2 ∷ [])
     12
     -- refusing 12 in the middle of a change that fits at its end: from 9 marks to 8 with room for 9
-    ∷ accepted (roomOf 5 9) (callOf wide (p9 wide) (remove 4 0) .after) (insert (closed 4 0 40 40) 2 2)
+    ∷ accepted (roomOf 5 9) (callOf wide (p9 wide) (removing 4 0) .after) (inserting (closed 4 0 40 40) 2 2)
     (closed 1 0 10 50 ∷ closed 2 0 20 20 ∷ closed 3 0 30 30 ∷ closed 4 0 40 40 ∷ [])
     (nodeOf 10 2 ∷ nodeOf 20 1 ∷ nodeOf 30 1 ∷ nodeOf 40 2 ∷ nodeOf 50 1 ∷ [])
     8
@@ -109,7 +110,7 @@ errorRows =
     ∷ stab firstOpen 0 [] 8
     ∷ stab firstOpen 5 (1 ∷ []) 9
     -- nodes of one level hide none of each other
-    ∷ stab (callOf wide (p9 wide) (remove 4 0) .after) 60 [] 12
+    ∷ stab (callOf wide (p9 wide) (removing 4 0) .after) 60 [] 12
     -- the count is of flags and marks met of marks: two bands of one number, which no sound profile has, tell them apart
     ∷ meets (profileOf (closed 1 0 1 9 ∷ closed 1 0 1 9 ∷ []) (nodeOf 1 1 ∷ nodeOf 9 1 ∷ [])) 5 (1 ∷ []) 1 2 9
     ∷ []
@@ -185,54 +186,54 @@ readRows =
     ∷ stab mixed 65535 (0 ∷ 100 ∷ []) 10
     ∷ []
 
--- Each refusal of each change, on arguments that mostly break a later rule too: the lowest number is given.
+-- Each refusal of each change, on arguments that mostly break a later rule too: the first line that applies is given, which has the lowest number.
 abbrev pub refusalRows : List Row
 refusalRows =
     emptied bench
     ∷ notEmptied bench
-    ∷ refused (roomOf 0 16384) emptyProfile (insert (closed 1 65 1 2) 1 1) 1
-    ∷ refused (roomOf 2049 16384) emptyProfile (insert (closed 1 65 1 2) 1 1) 1
-    ∷ refused (roomOf 2048 0) emptyProfile (insert (closed 1 65 1 2) 1 1) 1
-    ∷ refused (roomOf 2048 16385) emptyProfile (remove 1 65) 1
-    ∷ refused wide (profileOf (closed 1 0 1 2 ∷ []) []) (insert (closed 1 65 1 2) 1 1) 1
-    ∷ refused wide (profileOf (closed 1 0 1 2 ∷ []) []) (remove 1 65) 1
-    ∷ refused (roomOf 5 19) bench (insert (closed 6 0 3 9) 1 1) 1
-    ∷ refused (roomOf 6 18) bench (remove 3 0) 1
-    ∷ refused wide bench (insert (closed 1024 65 9 3) 0 9) 2
-    ∷ refused wide bench (insert (closed 1024 0 9 2097152) 0 9) 3
-    ∷ refused wide bench (insert (closed 6 0 2097152 3) 0 9) 4
-    ∷ refused wide bench (insert (open′ 6 1 3 4) 0 9) 5
-    ∷ refused wide bench (insert (openHigh 6 0 0 0) 1 1) 5
-    ∷ refused wide bench (insert (closed 6 1 32768 65536) 0 9) 6
-    ∷ refused wide bench (insert (open′ 6 1 32767 32770) 0 9) 6
-    ∷ refused wide bench (insert (closed 1 0 100 100) 1 0) 7
-    ∷ refused wide bench (insert (closed 1 0 100 100) 9 1) 7
-    ∷ refused wide bench (insert (closed 1 0 100 100) 0 1) 7
-    ∷ refused wide bench (insert (closed 1 0 100 100) 1 9) 7
-    ∷ refused (roomOf 6 19) bench (insert (closed 1 0 3 9) 1 1) 8
-    ∷ refused wide mixed (insert (closed 0 64 3 9) 1 1) 8
-    ∷ refused (roomOf 7 19) bench (insert (closed 6 0 3 9) 1 1) 11
-    ∷ refused (roomOf 8 21) bench (insert (closed 6 0 3 9) 1 1) 12
-    ∷ refused wide bench (remove 1024 65) 2
-    ∷ refused wide bench (remove 1024 0) 3
-    ∷ refused wide bench (remove 6 1) 9
-    ∷ refused wide bench (remove 3 1) 10
-    ∷ refused wide mixed (remove 0 64) 10
-    ∷ refused wide mixed (remove 100 1) 10
-    ∷ refused (roomOf 5 8) (p9 (roomOf 5 8)) (remove 4 1) 10
+    ∷ refused (roomOf 0 16384) emptyProfile (inserting (closed 1 65 1 2) 1 1) 1
+    ∷ refused (roomOf 2049 16384) emptyProfile (inserting (closed 1 65 1 2) 1 1) 1
+    ∷ refused (roomOf 2048 0) emptyProfile (inserting (closed 1 65 1 2) 1 1) 1
+    ∷ refused (roomOf 2048 16385) emptyProfile (removing 1 65) 1
+    ∷ refused wide (profileOf (closed 1 0 1 2 ∷ []) []) (inserting (closed 1 65 1 2) 1 1) 1
+    ∷ refused wide (profileOf (closed 1 0 1 2 ∷ []) []) (removing 1 65) 1
+    ∷ refused (roomOf 5 19) bench (inserting (closed 6 0 3 9) 1 1) 1
+    ∷ refused (roomOf 6 18) bench (removing 3 0) 1
+    ∷ refused wide bench (inserting (closed 1024 65 9 3) 0 9) 2
+    ∷ refused wide bench (inserting (closed 1024 0 9 2097152) 0 9) 3
+    ∷ refused wide bench (inserting (closed 6 0 2097152 3) 0 9) 4
+    ∷ refused wide bench (inserting (open′ 6 1 3 4) 0 9) 5
+    ∷ refused wide bench (inserting (openHigh 6 0 0 0) 1 1) 5
+    ∷ refused wide bench (inserting (closed 6 1 32768 65536) 0 9) 6
+    ∷ refused wide bench (inserting (open′ 6 1 32767 32770) 0 9) 6
+    ∷ refused wide bench (inserting (closed 1 0 100 100) 1 0) 7
+    ∷ refused wide bench (inserting (closed 1 0 100 100) 9 1) 7
+    ∷ refused wide bench (inserting (closed 1 0 100 100) 0 1) 7
+    ∷ refused wide bench (inserting (closed 1 0 100 100) 1 9) 7
+    ∷ refused (roomOf 6 19) bench (inserting (closed 1 0 3 9) 1 1) 8
+    ∷ refused wide mixed (inserting (closed 0 64 3 9) 1 1) 8
+    ∷ refused (roomOf 7 19) bench (inserting (closed 6 0 3 9) 1 1) 11
+    ∷ refused (roomOf 8 21) bench (inserting (closed 6 0 3 9) 1 1) 12
+    ∷ refused wide bench (removing 1024 65) 2
+    ∷ refused wide bench (removing 1024 0) 3
+    ∷ refused wide bench (removing 6 1) 9
+    ∷ refused wide bench (removing 3 1) 10
+    ∷ refused wide mixed (removing 0 64) 10
+    ∷ refused wide mixed (removing 100 1) 10
+    ∷ refused (roomOf 5 8) (p9 (roomOf 5 8)) (removing 4 1) 10
     ∷ []
 
 -- Calls that just fit, and what they leave.
 abbrev pub acceptedRows : List Row
 acceptedRows =
     is (roomOf 1 1) emptyProfile [] [] 0
-    ∷ accepted (roomOf 1 1) emptyProfile (insert (closed 0 0 0 0) 1 1) (closed 0 0 0 0 ∷ []) (nodeOf 0 1 ∷ []) 1
-    ∷ accepted wide emptyProfile (insert (open′ 1 0 3 5) 1 1) (open′ 1 0 3 5 ∷ []) (nodeOf 3 1 ∷ nodeOf 5 1 ∷ []) 1
-    ∷ accepted wide emptyProfile (insert (closed 1023 house 32767 32768) 8 1)
+    ∷ accepted (roomOf 1 1) emptyProfile (inserting (closed 0 0 0 0) 1 1) (closed 0 0 0 0 ∷ []) (nodeOf 0 1 ∷ []) 1
+    ∷ accepted wide emptyProfile (inserting (open′ 1 0 3 5) 1 1) (open′ 1 0 3 5 ∷ []) (nodeOf 3 1 ∷ nodeOf 5 1 ∷ []) 1
+    ∷ accepted wide emptyProfile (inserting (closed 1023 house 32767 32768) 8 1)
     (closed 1023 house 32767 32768 ∷ [])
     (nodeOf 32767 8 ∷ nodeOf 32768 1 ∷ [])
     3
-    ∷ accepted (roomOf 8 22) bench (insert (closed 6 0 3 9) 4 1)
+    ∷ accepted (roomOf 8 22) bench (inserting (closed 6 0 3 9) 4 1)
     (closed 1 0 100 400 ∷ openLow 2 0 400 900 ∷ closed 3 0 200 300 ∷ closed 4 0 250 250 ∷ openHigh 5 0 100 900 ∷ closed 6 0 3 9 ∷ [])
     (nodeOf 3 4 ∷ nodeOf 9 1 ∷ nodeOf 100 1 ∷ nodeOf 200 3 ∷ nodeOf 250 1 ∷ nodeOf 300 2 ∷ nodeOf 400 1 ∷ nodeOf 900 2 ∷ [])
     22
@@ -240,21 +241,21 @@ acceptedRows =
     (closed 0 1 32768 65535 ∷ open′ 100 house 32768 70000 ∷ openHigh 1023 house 5 32768 ∷ [])
     (nodeOf 5 2 ∷ nodeOf 32768 1 ∷ nodeOf 65535 1 ∷ nodeOf 70000 4 ∷ [])
     8
-    ∷ accepted wide mixed (remove 0 1)
+    ∷ accepted wide mixed (removing 0 1)
     (open′ 100 house 32768 70000 ∷ openHigh 1023 house 5 32768 ∷ [])
     (nodeOf 5 2 ∷ nodeOf 32768 1 ∷ nodeOf 70000 4 ∷ [])
     3
-    ∷ accepted wide tall (remove 2 0) (closed 1 0 10 50 ∷ []) (nodeOf 10 8 ∷ nodeOf 50 8 ∷ []) 3
-    ∷ accepted wide tall (insert (closed 3 0 5 10) 8 1)
+    ∷ accepted wide tall (removing 2 0) (closed 1 0 10 50 ∷ []) (nodeOf 10 8 ∷ nodeOf 50 8 ∷ []) 3
+    ∷ accepted wide tall (inserting (closed 3 0 5 10) 8 1)
     (closed 1 0 10 50 ∷ closed 2 0 20 20 ∷ closed 3 0 5 10 ∷ [])
     (nodeOf 5 8 ∷ nodeOf 10 8 ∷ nodeOf 20 7 ∷ nodeOf 50 8 ∷ [])
     7
     -- two nodes made, or dropped, by one call do not bound each other's stretch
-    ∷ accepted wide around (insert (closed 3 0 200 300) 2 2)
+    ∷ accepted wide around (inserting (closed 3 0 200 300) 2 2)
     (closed 1 0 100 400 ∷ closed 3 0 200 300 ∷ [])
     (nodeOf 100 1 ∷ nodeOf 200 2 ∷ nodeOf 300 2 ∷ nodeOf 400 1 ∷ [])
     10
-    ∷ accepted wide (callOf wide around (insert (closed 3 0 200 300) 2 2) .after) (remove 3 0)
+    ∷ accepted wide (callOf wide around (inserting (closed 3 0 200 300) 2 2) .after) (removing 3 0)
     (closed 1 0 100 400 ∷ [])
     (nodeOf 100 1 ∷ nodeOf 400 1 ∷ [])
     3
@@ -298,32 +299,36 @@ reachRows =
     ∷ runs (bench .nodes) (nodeOf 150 2) 0 200
     ∷ runs (bench .nodes) (nodeOf 260 8) 0 2097151
     -- other bands lose their marks, or gain some
-    ∷ near 3 bench (profileOf [] (bench .nodes)) false
-    ∷ near 3 (profileOf [] (bench .nodes)) bench false
+    ∷ near (hasNumber 3) bench (profileOf [] (bench .nodes)) false
+    ∷ near (hasNumber 3) (profileOf [] (bench .nodes)) bench false
     -- a call may change its own band's marks anywhere
-    ∷ near 1 (profileOf (oneBand ∷ []) twoNodes) (profileOf [] twoNodes) true
+    ∷ near (hasNumber 1) (profileOf (oneBand ∷ []) twoNodes) (profileOf [] twoNodes) true
     -- only a node mark is lost; only an edge mark of lane 2
-    ∷ near 0 twins (profileOf (openLow 1 0 10 50 ∷ []) (twins .nodes)) false
-    ∷ near 0 (profileOf (open′ 1 0 10 50 ∷ []) (twins .nodes)) (profileOf [] (twins .nodes)) false
+    ∷ near (hasNumber 0) twins (profileOf (openLow 1 0 10 50 ∷ []) (twins .nodes)) false
+    ∷ near (hasNumber 0) (profileOf (open′ 1 0 10 50 ∷ []) (twins .nodes)) (profileOf [] (twins .nodes)) false
     -- a node of level 2 made at 260 reaches from 200 to 300: edges 200-250 and 250-300 and node 250, and nothing else
-    ∷ near 0 (profileOf (open′ 1 0 300 400 ∷ []) (bench .nodes)) (profileOf [] bench260) false
-    ∷ near 0 (profileOf (open′ 1 0 100 200 ∷ []) (bench .nodes)) (profileOf [] bench260) false
-    ∷ near 0 (profileOf (closed 1 0 300 300 ∷ []) (bench .nodes)) (profileOf [] bench260) false
-    ∷ near 0 (profileOf (closed 1 0 200 200 ∷ []) (bench .nodes)) (profileOf [] bench260) false
-    ∷ near 0 (profileOf (closed 1 0 250 250 ∷ []) (bench .nodes)) (profileOf [] bench260) true
-    ∷ near 0 (profileOf (open′ 1 0 200 250 ∷ []) (bench .nodes)) (profileOf [] bench260) true
+    ∷ near (hasNumber 0) (profileOf (open′ 1 0 300 400 ∷ []) (bench .nodes)) (profileOf [] bench260) false
+    ∷ near (hasNumber 0) (profileOf (open′ 1 0 100 200 ∷ []) (bench .nodes)) (profileOf [] bench260) false
+    ∷ near (hasNumber 0) (profileOf (closed 1 0 300 300 ∷ []) (bench .nodes)) (profileOf [] bench260) false
+    ∷ near (hasNumber 0) (profileOf (closed 1 0 200 200 ∷ []) (bench .nodes)) (profileOf [] bench260) false
+    ∷ near (hasNumber 0) (profileOf (closed 1 0 250 250 ∷ []) (bench .nodes)) (profileOf [] bench260) true
+    ∷ near (hasNumber 0) (profileOf (open′ 1 0 200 250 ∷ []) (bench .nodes)) (profileOf [] bench260) true
     -- a node made again with another level reaches what its level reached
-    ∷ near 0 bench (profileOf (bench .bands) bench300) true
+    ∷ near (hasNumber 0) bench (profileOf (bench .bands) bench300) true
+    -- where machine 1's bands go and another of its bands comes in, those of machine 0 and of the house keep their marks, and machine 1's do not
+    ∷ near (hasScope 1) mapped remapped true
+    ∷ near (hasNumber 5) mapped remapped false
+    ∷ near (hasScope 1) mapped (profileOf (openLow 1 0 100 400 ∷ closed 4 house 32768 40000 ∷ openHigh 5 1 32768 40000 ∷ []) (remapped .nodes)) false
     -- a node next to the key at which a stretch begins is strictly inside it: without node 12, node 11 bears band 1
-    ∷ accepted wide nextTo (remove 3 0) (closed 1 0 10 20 ∷ closed 2 0 11 11 ∷ []) (nodeOf 10 2 ∷ nodeOf 11 1 ∷ nodeOf 20 1 ∷ []) 6
+    ∷ accepted wide nextTo (removing 3 0) (closed 1 0 10 20 ∷ closed 2 0 11 11 ∷ []) (nodeOf 10 2 ∷ nodeOf 11 1 ∷ nodeOf 20 1 ∷ []) 6
     -- looks at machine 1's keys may change by a call of machine 0
     ∷ stab bench 40000 [] 11
-    ∷ stab (callOf wide bench (insert (closed 6 0 950 950) 8 8) .after) 40000 [] 9
-    ∷ alike bench (callOf wide bench (insert (closed 6 0 950 950) 8 8) .after) 40000 true
+    ∷ stab (callOf wide bench (inserting (closed 6 0 950 950) 8 8) .after) 40000 [] 9
+    ∷ alike bench (callOf wide bench (inserting (closed 6 0 950 950) 8 8) .after) 40000 true
     -- answers at a key of machine 0
-    ∷ alike bench (callOf wide bench (insert (closed 6 1 32768 65535) 8 8) .after) 250 true
-    ∷ alike bench (callOf wide bench (insert (closed 6 house 0 65535) 8 8) .after) 250 false
-    ∷ alike bench (callOf wide bench (remove 4 0) .after) 250 false
+    ∷ alike bench (callOf wide bench (inserting (closed 6 1 32768 65535) 8 8) .after) 250 true
+    ∷ alike bench (callOf wide bench (inserting (closed 6 house 0 65535) 8 8) .after) 250 false
+    ∷ alike bench (callOf wide bench (removing 4 0) .after) 250 false
     ∷ []
 
 -- The bench card: the key first, with place 0; each record by 2 to 6; a number that stands twice by 8, at the later place.

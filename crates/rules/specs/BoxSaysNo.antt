@@ -1,4 +1,5 @@
--- "When the box says no": each line of the table as a condition, and for each call the lines that can be given, lowest first.
+-- "When the box says no": each line of the table as a condition, and for each call the lines that can be given, in their order. In each list here
+-- the numbers ascend, so that the first line that applies is the lowest.
 -- Whether sizes are right and memory is sound is given here as two Bools: these rules know no memory.
 -- Assumes nothing.
 use Prim.Native.Nat.{ℕ}
@@ -27,10 +28,10 @@ pub record TableLine : Type 0 where
 abbrev pub line : ℕ → Bool → TableLine
 line n c = record { refusal = n; applies = c }
 
--- of lines in ascending order the lowest number that applies is given; 0 where none does
-abbrev pub lowest : List TableLine → ℕ
-lowest [] = 0
-lowest (l ∷ ls) = cond (l .applies) (l .refusal) (lowest ls)
+-- the number of the first line that applies; 0 where none does
+abbrev pub refusalBy : List TableLine → ℕ
+refusalBy [] = 0
+refusalBy (l ∷ ls) = cond (l .applies) (l .refusal) (refusalBy ls)
 
 -- 1: sizes are out of range; for insert and remove, also memory not sound
 abbrev pub sizesWrong : Bool → TableLine
@@ -99,54 +100,65 @@ bandLines b = scopeAbove (b .scope) ∷ numberAbove (b .number) ∷ endAbove b �
 
 -- 4, for a key asked for
 unfoldable pub keyFault : ℕ → ℕ
-keyFault k = lowest (keyAbove k ∷ [])
+keyFault k = refusalBy (keyAbove k ∷ [])
 
--- the lowest of 2 to 6 that applies to a band
+-- the first of 2 to 6 that applies to a band
 unfoldable pub bandFault : Band → ℕ
-bandFault b = lowest (bandLines b)
+bandFault b = refusalBy (bandLines b)
 
 -- the faults of a band and the levels given for its ends: 2 to 7
 abbrev pub faultLines : Band → ℕ → ℕ → List TableLine
 faultLines b lowLevel highLevel = bandLines b ++ levelWrong lowLevel highLevel ∷ []
 
--- the lowest of 2 to 7 that applies to a band and the levels given for its ends
+-- the first of 2 to 7 that applies to a band and the levels given for its ends
 unfoldable pub faultOf : Band → ℕ → ℕ → ℕ
-faultOf b lowLevel highLevel = lowest (faultLines b lowLevel highLevel)
+faultOf b lowLevel highLevel = refusalBy (faultLines b lowLevel highLevel)
 
 -- an empty profile is refused only by 1 (sizes), whatever the memory held
 abbrev pub emptyLines : Bool → List TableLine
 emptyLines sizesRight = sizesWrong sizesRight ∷ []
 
 unfoldable pub emptyRefusal : Bool → ℕ
-emptyRefusal sizesRight = lowest (emptyLines sizesRight)
+emptyRefusal sizesRight = refusalBy (emptyLines sizesRight)
 
--- insert: 1 to 8, 11, 12; nothing but the state after the call decides 11 and 12
+-- 11, then 12: nothing but the state after the call decides them
+abbrev pub fitLines : Room → Profile → List TableLine
+fitLines room after = nodesExceed room after ∷ marksExceed room after ∷ []
+
+unfoldable pub fitRefusal : Room → Profile → ℕ
+fitRefusal room after = refusalBy (fitLines room after)
+
+-- what an insert is judged by before anything is made ready: 1 to 8
+abbrev pub insertJudgedLines : Bool → Bool → Profile → Band → ℕ → ℕ → List TableLine
+insertJudgedLines sizesRight sound p b lowLevel highLevel =
+    notSound sizesRight sound ∷ faultLines b lowLevel highLevel ++ numberLive p (b .number) ∷ []
+
+-- insert: 1 to 8, 11, 12
 abbrev pub insertLines : Bool → Bool → Room → Profile → Band → ℕ → ℕ → List TableLine
 insertLines sizesRight sound room p b lowLevel highLevel =
-    notSound sizesRight sound
-    ∷ faultLines b lowLevel highLevel
-    ++ numberLive p (b .number)
-    ∷ nodesExceed room (inserted p b lowLevel highLevel)
-    ∷ marksExceed room (inserted p b lowLevel highLevel)
-    ∷ []
+    insertJudgedLines sizesRight sound p b lowLevel highLevel ++ fitLines room (inserted p b lowLevel highLevel)
 
 unfoldable pub insertRefusal : Bool → Bool → Room → Profile → Band → ℕ → ℕ → ℕ
 insertRefusal sizesRight sound room p b lowLevel highLevel =
-    lowest (insertLines sizesRight sound room p b lowLevel highLevel)
+    refusalBy (insertLines sizesRight sound room p b lowLevel highLevel)
 
--- remove: 1, 2, 3, 9, 10, 12; nodes never grow, so 11 is never given
-abbrev pub removeLines : Bool → Bool → Room → Profile → ℕ → ℕ → List TableLine
-removeLines sizesRight sound room p number scope =
+-- what a remove is judged by before anything is made ready: 1, 2, 3, 9, 10
+abbrev pub removeJudgedLines : Bool → Bool → Profile → ℕ → ℕ → List TableLine
+removeJudgedLines sizesRight sound p number scope =
     notSound sizesRight sound
     ∷ scopeAbove scope
     ∷ numberAbove number
     ∷ numberNotLive p number
     ∷ scopeOther p number scope
-    ∷ marksExceed room (removed p number)
     ∷ []
 
+-- remove: 1, 2, 3, 9, 10, 12; nodes never grow, so 11 is never given
+abbrev pub removeLines : Bool → Bool → Room → Profile → ℕ → ℕ → List TableLine
+removeLines sizesRight sound room p number scope =
+    removeJudgedLines sizesRight sound p number scope ++ marksExceed room (removed p number) ∷ []
+
 unfoldable pub removeRefusal : Bool → Bool → Room → Profile → ℕ → ℕ → ℕ
-removeRefusal sizesRight sound room p number scope = lowest (removeLines sizesRight sound room p number scope)
+removeRefusal sizesRight sound room p number scope = refusalBy (removeLines sizesRight sound room p number scope)
 
 -- what a change comes to: the number it answers, 0 where it is accepted, and what stands after it
 pub record Change (A : Type 0) : Type 0 where
@@ -177,14 +189,14 @@ abbrev pub stabLines : Bool → ℕ → List TableLine
 stabLines sizesRight k = sizesWrong sizesRight ∷ keyAbove k ∷ []
 
 unfoldable pub stabRefusal : Bool → ℕ → ℕ
-stabRefusal sizesRight k = lowest (stabLines sizesRight k)
+stabRefusal sizesRight k = refusalBy (stabLines sizesRight k)
 
 -- band readout: 1 (sizes), 3, 9, where it is known whether the number is live
 abbrev pub bandReadLines : Bool → ℕ → Bool → List TableLine
 bandReadLines sizesRight number live = sizesWrong sizesRight ∷ numberAbove number ∷ notLive live ∷ []
 
 unfoldable pub bandReadRefusal : Bool → Profile → ℕ → ℕ
-bandReadRefusal sizesRight p number = lowest (bandReadLines sizesRight number (isLive number (p .bands)))
+bandReadRefusal sizesRight p number = refusalBy (bandReadLines sizesRight number (isLive number (p .bands)))
 
 -- edge readout: 1 (sizes), 4, 13, where it is known whether a node stands at the key and has the lane
 abbrev pub edgeReadLines : Bool → ℕ → Bool → Bool → List TableLine
@@ -192,21 +204,21 @@ edgeReadLines sizesRight k stands hasLane = sizesWrong sizesRight ∷ keyAbove k
 
 unfoldable pub edgeReadRefusal : Bool → Profile → ℕ → ℕ → ℕ
 edgeReadRefusal sizesRight p k i =
-    lowest (edgeReadLines sizesRight k (standsAt k (p .nodes)) (ltb i (levelAt k (p .nodes))))
+    refusalBy (edgeReadLines sizesRight k (standsAt k (p .nodes)) (ltb i (levelAt k (p .nodes))))
 
 -- node readout: 1 (sizes), 4, 13, where it is known whether a node stands at the key
 abbrev pub nodeReadLines : Bool → ℕ → Bool → List TableLine
 nodeReadLines sizesRight k stands = sizesWrong sizesRight ∷ keyAbove k ∷ notThere stands ∷ []
 
 unfoldable pub nodeReadRefusal : Bool → Profile → ℕ → ℕ
-nodeReadRefusal sizesRight p k = lowest (nodeReadLines sizesRight k (standsAt k (p .nodes)))
+nodeReadRefusal sizesRight p k = refusalBy (nodeReadLines sizesRight k (standsAt k (p .nodes)))
 
 -- room readout: 1 (sizes)
 abbrev pub roomReadLines : Bool → List TableLine
 roomReadLines sizesRight = sizesWrong sizesRight ∷ []
 
 unfoldable pub roomReadRefusal : Bool → ℕ
-roomReadRefusal sizesRight = lowest (roomReadLines sizesRight)
+roomReadRefusal sizesRight = refusalBy (roomReadLines sizesRight)
 
 -- a stab or a readout answers its number, 0 where it is not refused, and what is read
 pub record Answered (A : Type 0) : Type 0 where

@@ -1,5 +1,5 @@
 -- The paper as definitions, under its own headings and in its words:
---   "What is built"                        Profile, Changes, Readouts
+--   "What is built"                        Profile, Changes, Readouts, Calls, RuledCalls
 --   "The hall line" (keys, bands)          HallLine
 --   "Nodes, lanes, edges"                  NodesLanesEdges
 --   "Marks"                                Marks
@@ -25,8 +25,10 @@ pub mod Flags
 pub mod Search
 pub mod Changes
 pub mod Readouts
+pub mod Calls
 pub mod Room
 pub mod BoxSaysNo
+pub mod RuledCalls
 pub mod SoundMemory
 pub mod BenchCard
 pub mod Reach

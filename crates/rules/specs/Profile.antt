@@ -24,6 +24,10 @@ emptyProfile = profileOf [] []
 unfoldable pub hasNumber : ℕ → Band → Bool
 hasNumber n b = eqb (b .number) n
 
+-- the band is of the scope
+unfoldable pub hasScope : ℕ → Band → Bool
+hasScope m b = eqb (b .scope) m
+
 -- the number is live
 unfoldable pub isLive : ℕ → List Band → Bool
 isLive n bs = any (hasNumber n) bs

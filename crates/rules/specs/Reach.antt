@@ -2,16 +2,17 @@
 -- Assumes nothing.
 use Prim.Native.Nat.{ℕ, max, min, _<_}
 use mathlib.Core.Path.{_≡_}
-use mathlib.Core.Bool.{Bool, true, not, cond}
+use mathlib.Core.Bool.{Bool, true, false, not, cond}
 use mathlib.Core.List.{List, [], _∷_, _++_}
 use lib.Dec.{leb, ltb, eqb}
 use Rattle.rules.specs.Connectives.{_and_, _or_}
 use Rattle.rules.specs.Lists.{any, all, keep, member, sameNumbers}
-use Rattle.rules.specs.HallLine.{highestKey, machines, ownKey}
+use Rattle.rules.specs.HallLine.{Band, highestKey, machines, ownKey}
 use Rattle.rules.specs.NodesLanesEdges.{Node, Edge, edgesIn, inSomeLane, standsAt}
 use Rattle.rules.specs.Profile.{Profile, hasNumber}
 use Rattle.rules.specs.Marks.{markedOnEdge, markedOnNode}
 use Rattle.rules.specs.Search.{stabOf}
+use Rattle.rules.specs.Calls.{Call, emptying, inserting, removing, checking, stabbing, readingBand, readingEdge, readingNode, readingRoom}
 
 -- two profiles answer the same at a key: flags, count and marks met. Looks may differ
 unfoldable pub answersAlike : Profile → Profile → ℕ → Bool
@@ -103,10 +104,24 @@ unfoldable pub keepsMarks : List Node → List Node → Profile → Profile → 
 keepsMarks both touched p q number =
     not (inSomeLane (losesInLane both touched p q number)) and not (losesOnNode both touched p q number)
 
--- bands other than the call's keep every such mark, and gain none: the same read backwards
-unfoldable pub reachesOnlyStretches : ℕ → Profile → Profile → Bool
-reachesOnlyStretches number p q =
-    let both : List Node = presentBoth (p .nodes) (q .nodes) in
-    let touched : List Node = madeOrDropped (p .nodes) (q .nodes) in
-    all (λ b. hasNumber number b or keepsMarks both touched p q (b .number)) (p .bands)
-    and all (λ b. hasNumber number b or keepsMarks both touched q p (b .number)) (q .bands)
+-- bands other than the call's own keep every such mark, and gain none: the same read backwards
+unfoldable pub othersKeepMarks : (Band → Bool) → List Node → List Node → Profile → Profile → Bool
+othersKeepMarks own both touched p q =
+    all (λ b. own b or keepsMarks both touched p q (b .number)) (p .bands)
+    and all (λ b. own b or keepsMarks both touched q p (b .number)) (q .bands)
+
+-- so it is from p to q, with the nodes present both before and after and those made or dropped
+unfoldable pub reachesOnlyStretches : (Band → Bool) → Profile → Profile → Bool
+reachesOnlyStretches own p q = othersKeepMarks own (presentBoth (p .nodes) (q .nodes)) (madeOrDropped (p .nodes) (q .nodes)) p q
+
+-- which bands are the call's own. Making an empty profile is under no rule on stretches, so to it every band is its own
+abbrev pub ofCall : Call → Band → Bool
+ofCall emptying b = true
+ofCall (inserting c lowLevel highLevel) b = hasNumber (c .number) b
+ofCall (removing number scope) b = hasNumber number b
+ofCall checking b = false
+ofCall (stabbing key) b = false
+ofCall (readingBand number) b = false
+ofCall (readingEdge key lane) b = false
+ofCall (readingNode key) b = false
+ofCall readingRoom b = false

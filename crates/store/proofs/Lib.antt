@@ -14,6 +14,9 @@
 --   LaidEmpty      the words of the empty profile
 --   Sound          sound memory in plain facts, and that two of the same lengths and profile are equal
 --   LaidSound      what is laid is sound and says the profile: each that stands and fits has such a memory
+--   SaidStands     the profile that sound memory says stands, and fits its room
+--   ChangeIn       what is so of every change of memory
+--   LentWords      what a call that is lent memory is given, as promises speak of it
 --   MemoryExample  the example of docs/MEMORY.md
 --   LinkMarks      the marks of a link's slot are those of the edge there
 --   NextInLane     the next node of a lane, as the links and as the paper's search know it
@@ -39,6 +42,9 @@ pub mod NamesNoBand
 pub mod LaidEmpty
 pub mod Sound
 pub mod LaidSound
+pub mod SaidStands
+pub mod ChangeIn
+pub mod LentWords
 pub mod LinkMarks
 pub mod NextInLane
 pub mod LinksLead

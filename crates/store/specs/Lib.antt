@@ -13,3 +13,4 @@ pub mod LaidNodes
 pub mod LaidMarks
 pub mod LaidMemory
 pub mod Sound
+pub mod ChangeIn

@@ -10,7 +10,8 @@ use Rattle.rules.specs.HallLine.{Band, machines, ownKey, holds}
 use Rattle.rules.specs.Profile.{Profile}
 use Rattle.rules.specs.Room.{Room}
 use Rattle.rules.specs.Search.{taken, stabOf}
-use Rattle.rules.specs.BoxSaysNo.{insertOutcome, removeOutcome}
+use Rattle.rules.specs.Changes.{inserted, removed}
+use Rattle.rules.specs.BoxSaysNo.{changed, insertRefusal, removeRefusal, insertOutcome, removeOutcome}
 use Rattle.rules.specs.Reach.{OthersAlike}
 use Rattle.rules.proofs.Means.{never, passes-or-fails, same-means}
 use Rattle.rules.proofs.Lists.{In, Each, member-means}
@@ -18,12 +19,12 @@ use Rattle.rules.proofs.HallLine.{scope-keeps, one-machine}
 use Rattle.rules.proofs.Profile.{SameBut}
 use Rattle.rules.proofs.Flags.{flags-by-members, count-by-members}
 use Rattle.rules.proofs.Changes.{insert-keeps-others, remove-keeps-others}
-use Rattle.rules.proofs.BoxSaysNo.{BandRight, insert-keeps, remove-keeps}
+use Rattle.rules.proofs.BoxSaysNo.{not-sound-fails, BandRight, remove-accepted, change-keeps}
 use Rattle.rules.proofs.SoundMemory.{Standing}
 use Rattle.rules.proofs.Reach.{answers-alike-means}
 use Rattle.rules.proofs.Theory.MarkedOver.{standing-nodes-right}
 use Rattle.rules.proofs.Theory.MetOnce.{HeldBy, taken-are-those-holding, met-is-count}
-use Rattle.rules.proofs.Theory.StandingKept.{insert-keeps-standing, remove-keeps-standing}
+use Rattle.rules.proofs.Theory.StandingKept.{insert-stands, removed-stands}
 
 -- a machine's band holds no key of another machine
 pub holds-no-other : (b : Band) → BandRight b → b .scope < machines → (n : ℕ) → (n ≡ b .scope → ⊥) → (k : ℕ) → ownKey n k ≡ true
@@ -76,19 +77,27 @@ others-alike m p q before after only l n below off k own =
       same-met m n k l off own p q before after only,
     )
 
-module _ (sizesRight sound : Bool) (room : Room) (p : Profile) (s : Standing p) where
-  -- an insert of scope below 64, accepted or refused, leaves flags, count and marks met the same at every key of every other machine
-  pub insert-alone : (b : Band) (lo hi : ℕ) → OthersAlike (b .scope) p (insertOutcome sizesRight sound room p b lo hi .after)
-  insert-alone b lo hi =
-      others-alike (b .scope) p _ s (insert-keeps-standing sizesRight sound room p b lo hi s)
-      (insert-keeps (DifferOnlyIn (b .scope) p) sizesRight sound room p b lo hi
-      (λ c off. Iff·rfl)
-      (λ t. insert-keeps-others p b lo hi (λ c. c .scope ≡ b .scope) refl))
+-- a change, accepted or refused, leaves flags, count and marks met the same at every key of every machine but m, where, if nothing refuses it, the
+-- profile after it stands and only bands of scope m come or go
+pub change-alone : (m refusal : ℕ) (p q : Profile) → Standing p → (refusal ≡ 0 → Standing q × DifferOnlyIn m p q)
+    → OthersAlike m p (changed refusal p q .after)
+change-alone m refusal p q s after =
+    change-keeps (OthersAlike m p) refusal p q (others-alike m p p s s (λ b off. Iff·rfl)) (λ z. others-alike m p q s (after z .0) (after z .1))
 
-  -- and so does a remove
+module _ (sizesRight sound : Bool) (room : Room) (p : Profile) (s : Standing p) where
+  -- so an insert of scope below 64
+  pub insert-alone : (b : Band) (lo hi : ℕ) → OthersAlike (b .scope) p (insertOutcome sizesRight sound room p b lo hi .after)
+  unfolding insertOutcome
+  insert-alone b lo hi =
+      change-alone (b .scope) (insertRefusal sizesRight sound room p b lo hi) p (inserted p b lo hi) s
+      (λ z. (insert-stands sizesRight sound room p b lo hi s z, insert-keeps-others p b lo hi (λ c. c .scope ≡ b .scope) refl))
+
+  -- and a remove
   pub remove-alone : (number scope : ℕ) → OthersAlike scope p (removeOutcome sizesRight sound room p number scope .after)
+  unfolding removeOutcome
   remove-alone number scope =
-      others-alike scope p _ s (remove-keeps-standing sizesRight sound room p number scope s)
-      (remove-keeps (DifferOnlyIn scope p) sizesRight sound room p number scope
-      (λ c off. Iff·rfl)
-      (λ t. remove-keeps-others p number (λ c. c .scope ≡ scope) (t .scope-same)))
+      change-alone scope (removeRefusal sizesRight sound room p number scope) p (removed p number) s
+      (λ z. (
+        removed-stands p number s,
+        remove-keeps-others p number (λ c. c .scope ≡ scope) (remove-accepted sizesRight sound (not-sound-fails sizesRight sound) room p number scope .0 z .judged .scope-same),
+      ))

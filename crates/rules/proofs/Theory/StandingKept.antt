@@ -1,10 +1,11 @@
 -- Standing is kept: the profile after an accepted insert or remove is standing again, so that every call, accepted or refused,
--- leaves a standing profile standing and a sound one sound in its room.
+-- leaves a standing profile standing and a sound one sound in its room. Of any change it is said once what this asks.
 -- Assumes nothing.
 use Prim.Native.Nat.{ℕ, _≤_}
 use mathlib.Core.Path.{_≡_, refl, ap}
 use mathlib.Core.Bool.{Bool, true}
 use mathlib.Core.Logic.{inl, inr, ⊎-elim, ⊎-map}
+use mathlib.Core.List.{List, [], _∷_}
 use native.Mathlib.Omega.{arith}
 use lib.ListN.{length}
 use Rattle.rules.specs.HallLine.{Band}
@@ -13,15 +14,17 @@ use Rattle.rules.specs.Profile.{Profile, emptyProfile, hasNumber}
 use Rattle.rules.specs.Marks.{marksInUse}
 use Rattle.rules.specs.Changes.{inserted, nodesAtEnds, withoutWhere, removed}
 use Rattle.rules.specs.Room.{Room, roomInRange}
-use Rattle.rules.specs.BoxSaysNo.{emptyRefusal, emptyOutcome, insertOutcome, removeOutcome}
+use Rattle.rules.specs.BoxSaysNo.{changed, emptyRefusal, insertRefusal, removeRefusal, emptyOutcome, insertOutcome, removeOutcome}
 use Rattle.rules.specs.SoundMemory.{standing, soundIn}
+use Rattle.rules.specs.Calls.{Call, emptying, inserting, removing, checking, stabbing, readingBand, readingEdge, readingNode, readingRoom}
+use Rattle.rules.specs.RuledCalls.{callOutcome, ruledAfterCall, ruledAfterCalls}
 use Rattle.rules.specs.Computes.{computes}
 use Rattle.rules.proofs.Means.{itself}
 use Rattle.rules.proofs.Lists.{In, Each, keep-all}
 use Rattle.rules.proofs.NodesLanesEdges.{Level, NodeAt, EndOf, is-end-of-some-means}
 use Rattle.rules.proofs.Changes.{at-with-ends, in-with-ends, with-ends-ascend, in-inserted-bands, inserted-bands-ascend, in-bands-left, in-nodes-left, bands-left-ascend, nodes-left-ascend, removed-nodes-no-more}
-use Rattle.rules.proofs.BoxSaysNo.{room-in-range-means, BandRight, InsertAccepted, empty-accepted, accepted-changes, empty-keeps, insert-keeps, remove-keeps}
-use Rattle.rules.proofs.SoundMemory.{Standing, standing-means, Fitting, SoundIn, sound-in-means}
+use Rattle.rules.proofs.BoxSaysNo.{room-in-range-means, not-sound-fails, BandRight, empty-accepted, insert-accepted, remove-accepted, accepted-changes, change-keeps}
+use Rattle.rules.proofs.SoundMemory.{Standing, standing-means, sound-in-means}
 
 -- all nodes of a standing profile are at ends
 pub all-at-ends : (p : Profile) → Standing p → nodesAtEnds (p .bands) (p .nodes) ≡ p .nodes
@@ -89,11 +92,27 @@ pub removed-stands : (p : Profile) (number : ℕ) → Standing p → Standing (r
 unfolding removed
 removed-stands p number = without-stands (hasNumber number) p
 
--- ---- every call, accepted or refused
+-- ---- any change, accepted or refused
 
--- where some profile fits the room, so does one with few enough nodes and marks
-fitting-too : (room : Room) (p q : Profile) → Fitting room p → length (q .nodes) ≤ room .nodes → marksInUse q ≤ room .marks → Fitting room q
-fitting-too room p q f n m = record { node-room = f .node-room; mark-room = f .mark-room; nodes-fit = n; marks-fit = m }
+module _ (refusal : ℕ) (p q : Profile) where
+  -- where the profile after it stands if nothing refuses it, a change leaves a standing profile standing ..
+  pub change-keeps-standing : Standing p → (refusal ≡ 0 → Standing q) → Standing (changed refusal p q .after)
+  change-keeps-standing = change-keeps Standing refusal p q
+
+  -- .. and where that profile also fits the room, a sound one sound
+  pub change-keeps-sound : (room : Room) → soundIn room p ≡ true
+      → (refusal ≡ 0 → Standing q × (length (q .nodes) ≤ room .nodes) × (marksInUse q ≤ room .marks))
+      → soundIn room (changed refusal p q .after) ≡ true
+  change-keeps-sound room e after = change-keeps (λ r. soundIn room r ≡ true) refusal p q e sound-after
+    where
+      sound-after : refusal ≡ 0 → soundIn room q ≡ true
+      sound-after z =
+          let was = sound-in-means room p .fact e .1 in
+          let is = after z in
+          sound-in-means room q .test
+          (is .0, record { node-room = was .node-room; mark-room = was .mark-room; nodes-fit = is .1; marks-fit = is .2 })
+
+-- ---- each call
 
 -- an empty profile is sound in every room that is in range
 pub empty-sound : (room : Room) → roomInRange room ≡ true → soundIn room emptyProfile ≡ true
@@ -104,21 +123,16 @@ empty-sound room e =
     (empty-stands, record { node-room = r .0; mark-room = r .1; nodes-fit = omega arith; marks-fit = omega arith })
 
 module _ (sizesRight : Bool) (p : Profile) where
-  -- making an empty profile, accepted or refused, leaves a standing profile standing ..
+  -- making an empty profile leaves a standing profile standing ..
   pub empty-keeps-standing : Standing p → Standing (emptyOutcome sizesRight p .after)
-  empty-keeps-standing s = empty-keeps Standing sizesRight p s (λ t. empty-stands)
-
-  -- .. by the test too ..
-  pub empty-keeps-standing-test : standing p ≡ true → standing (emptyOutcome sizesRight p .after) ≡ true
-  empty-keeps-standing-test e = standing-means _ .test (empty-keeps-standing (standing-means p .fact e))
+  unfolding emptyOutcome
+  empty-keeps-standing s = change-keeps-standing (emptyRefusal sizesRight) p emptyProfile s (λ z. empty-stands)
 
   module _ (room : Room) where
     -- .. and a sound one sound ..
     pub empty-keeps-sound : soundIn room p ≡ true → soundIn room (emptyOutcome sizesRight p .after) ≡ true
-    empty-keeps-sound e =
-        let f = sound-in-means room p .fact e .1 in
-        empty-keeps (λ q. soundIn room q ≡ true) sizesRight p e
-        (λ t. empty-sound room (room-in-range-means room .test (f .node-room, f .mark-room)))
+    unfolding emptyOutcome marksInUse
+    empty-keeps-sound e = change-keeps-sound (emptyRefusal sizesRight) p emptyProfile room e (λ z. (empty-stands, omega arith, omega arith))
 
     -- .. and, where sizes are right, a sound one whatever was there
     pub empty-makes-sound : sizesRight ≡ true → roomInRange room ≡ true → soundIn room (emptyOutcome sizesRight p .after) ≡ true
@@ -128,40 +142,74 @@ module _ (sizesRight : Bool) (p : Profile) where
 
 module _ (sizesRight sound : Bool) (room : Room) (p : Profile) where
   module _ (b : Band) (lo hi : ℕ) where
-    -- a standing profile after an insert that nothing refuses
-    taken-stands : Standing p → InsertAccepted sizesRight sound room p b lo hi → Standing (inserted p b lo hi)
-    taken-stands s t = inserted-stands p b lo hi s (t .band-right) (t .levels-right .0) (t .levels-right .1) (t .number-free)
+    -- the profile after an insert that nothing refuses stands
+    pub insert-stands : Standing p → insertRefusal sizesRight sound room p b lo hi ≡ 0 → Standing (inserted p b lo hi)
+    insert-stands s z =
+        let j = insert-accepted sizesRight sound (not-sound-fails sizesRight sound) room p b lo hi .0 z .judged in
+        inserted-stands p b lo hi s (j .band-right) (j .levels-right .0) (j .levels-right .1) (j .number-free)
 
     -- an insert leaves a standing profile standing ..
     pub insert-keeps-standing : Standing p → Standing (insertOutcome sizesRight sound room p b lo hi .after)
-    insert-keeps-standing s = insert-keeps Standing sizesRight sound room p b lo hi s (taken-stands s)
-
-    -- .. by the test too ..
-    pub insert-keeps-standing-test : standing p ≡ true → standing (insertOutcome sizesRight sound room p b lo hi .after) ≡ true
-    insert-keeps-standing-test e = standing-means _ .test (insert-keeps-standing (standing-means p .fact e))
+    unfolding insertOutcome
+    insert-keeps-standing s =
+        change-keeps-standing (insertRefusal sizesRight sound room p b lo hi) p (inserted p b lo hi) s (insert-stands s)
 
     -- .. and a sound one sound: nodes and marks fit by 11 and 12
     pub insert-keeps-sound : soundIn room p ≡ true → soundIn room (insertOutcome sizesRight sound room p b lo hi .after) ≡ true
+    unfolding insertOutcome
     insert-keeps-sound e =
-        let h = sound-in-means room p .fact e in
-        sound-in-means room _ .test
-        (insert-keeps (SoundIn room) sizesRight sound room p b lo hi h
-        (λ t. (taken-stands (h .0) t, fitting-too room p (inserted p b lo hi) (h .1) (t .nodes-fit) (t .marks-fit))))
+        change-keeps-sound (insertRefusal sizesRight sound room p b lo hi) p (inserted p b lo hi) room e
+        (λ z. let t = insert-accepted sizesRight sound (not-sound-fails sizesRight sound) room p b lo hi .0 z in
+        (insert-stands (sound-in-means room p .fact e .0) z, t .nodes-fit, t .marks-fit))
 
   module _ (number scope : ℕ) where
     -- a remove leaves a standing profile standing ..
     pub remove-keeps-standing : Standing p → Standing (removeOutcome sizesRight sound room p number scope .after)
-    remove-keeps-standing s = remove-keeps Standing sizesRight sound room p number scope s (λ t. removed-stands p number s)
-
-    -- .. by the test too ..
-    pub remove-keeps-standing-test : standing p ≡ true → standing (removeOutcome sizesRight sound room p number scope .after) ≡ true
-    remove-keeps-standing-test e = standing-means _ .test (remove-keeps-standing (standing-means p .fact e))
+    unfolding removeOutcome
+    remove-keeps-standing s =
+        change-keeps-standing (removeRefusal sizesRight sound room p number scope) p (removed p number) s (λ z. removed-stands p number s)
 
     -- .. and a sound one sound: nodes fit since they are no more than before, marks by 12
     pub remove-keeps-sound : soundIn room p ≡ true → soundIn room (removeOutcome sizesRight sound room p number scope .after) ≡ true
+    unfolding removeOutcome
     remove-keeps-sound e =
-        let h = sound-in-means room p .fact e in
-        let nodes-fit : length (removed p number .nodes) ≤ room .nodes = omega (arith, removed-nodes-no-more p number) in
-        sound-in-means room _ .test
-        (remove-keeps (SoundIn room) sizesRight sound room p number scope h
-        (λ t. (removed-stands p number (h .0), fitting-too room p (removed p number) (h .1) nodes-fit (t .marks-fit))))
+        let was = sound-in-means room p .fact e in
+        change-keeps-sound (removeRefusal sizesRight sound room p number scope) p (removed p number) room e
+        (λ z. (
+          removed-stands p number (was .0),
+          omega (arith, removed-nodes-no-more p number, was .1 .nodes-fit),
+          remove-accepted sizesRight sound (not-sound-fails sizesRight sound) room p number scope .0 z .marks-fit,
+        ))
+
+  -- ---- every call
+
+  pub call-keeps-standing : Standing p → (c : Call) → Standing (callOutcome sizesRight sound room p c .after)
+  call-keeps-standing s emptying = empty-keeps-standing sizesRight p s
+  call-keeps-standing s (inserting b lo hi) = insert-keeps-standing b lo hi s
+  call-keeps-standing s (removing number scope) = remove-keeps-standing number scope s
+  call-keeps-standing s checking = s
+  call-keeps-standing s (stabbing k) = s
+  call-keeps-standing s (readingBand number) = s
+  call-keeps-standing s (readingEdge k lane) = s
+  call-keeps-standing s (readingNode k) = s
+  call-keeps-standing s readingRoom = s
+
+  -- .. by the test too
+  pub call-keeps-standing-test : standing p ≡ true → (c : Call) → standing (callOutcome sizesRight sound room p c .after) ≡ true
+  call-keeps-standing-test e c = standing-means _ .test (call-keeps-standing (standing-means p .fact e) c)
+
+  pub call-keeps-sound : soundIn room p ≡ true → (c : Call) → soundIn room (callOutcome sizesRight sound room p c .after) ≡ true
+  call-keeps-sound e emptying = empty-keeps-sound sizesRight p room e
+  call-keeps-sound e (inserting b lo hi) = insert-keeps-sound b lo hi e
+  call-keeps-sound e (removing number scope) = remove-keeps-sound number scope e
+  call-keeps-sound e checking = e
+  call-keeps-sound e (stabbing k) = e
+  call-keeps-sound e (readingBand number) = e
+  call-keeps-sound e (readingEdge k lane) = e
+  call-keeps-sound e (readingNode k) = e
+  call-keeps-sound e readingRoom = e
+
+-- so does a list of calls, one after the other
+pub calls-keep-sound : (room : Room) (p : Profile) → soundIn room p ≡ true → (cs : List Call) → soundIn room (ruledAfterCalls room p cs) ≡ true
+calls-keep-sound room p e [] = e
+calls-keep-sound room p e (c ∷ cs) = calls-keep-sound room (ruledAfterCall room p c) (call-keeps-sound true true room p e c) cs

@@ -1,29 +1,32 @@
 -- "What one call can reach", the stretches, for any two standing profiles: a band that is live in both keeps every mark outside the stretches
--- and gains none there. Insert and remove leave all bands but the call's, so they reach only stretches.
+-- and gains none there. A change that leaves all bands but those that pass a test reaches only stretches; insert and remove are such.
 -- Assumes nothing.
 use Prim.Native.Nat.{ℕ, _≤_}
 use mathlib.Core.Path.{_≡_, refl, sym, subst}
-use mathlib.Core.Bool.{Bool, true}
+use mathlib.Core.Bool.{Bool, true, false}
 use mathlib.Core.Logic.{Iff·rfl, ⊎-elim, ⊎-map}
 use mathlib.Core.List.{List}
 use native.Mathlib.Omega.{arith}
 use Rattle.rules.specs.HallLine.{Band, highestKey}
 use Rattle.rules.specs.NodesLanesEdges.{Node, Edge}
-use Rattle.rules.specs.Profile.{Profile}
+use Rattle.rules.specs.Profile.{Profile, emptyProfile, hasNumber}
 use Rattle.rules.specs.Marks.{markedOnEdge, markedOnNode}
+use Rattle.rules.specs.Changes.{inserted, removed}
 use Rattle.rules.specs.Room.{Room}
-use Rattle.rules.specs.BoxSaysNo.{insertOutcome, removeOutcome}
-use Rattle.rules.specs.Reach.{presentBoth, madeOrDropped, reachesOnlyStretches}
-use Rattle.rules.proofs.Means.{so-or-not, eq-means}
+use Rattle.rules.specs.BoxSaysNo.{changed, emptyRefusal, insertRefusal, removeRefusal, emptyOutcome, insertOutcome, removeOutcome}
+use Rattle.rules.specs.Calls.{Call, emptying, inserting, removing, checking, stabbing, readingBand, readingEdge, readingNode, readingRoom}
+use Rattle.rules.specs.RuledCalls.{callOutcome}
+use Rattle.rules.specs.Reach.{presentBoth, madeOrDropped, othersKeepMarks, reachesOnlyStretches, ofCall}
+use Rattle.rules.proofs.Means.{Means, so-or-not, itself}
 use Rattle.rules.proofs.Lists.{In, Each, ascends-once}
 use Rattle.rules.proofs.NodesLanesEdges.{NodeAt}
-use Rattle.rules.proofs.Profile.{SameBut}
+use Rattle.rules.proofs.Profile.{SameBut, NoneBy, has-number-means}
 use Rattle.rules.proofs.Marks.{node-mark-rule, in-marked-on-edge, in-marked-on-node}
 use Rattle.rules.proofs.Changes.{insert-keeps-others, remove-keeps-others}
-use Rattle.rules.proofs.BoxSaysNo.{insert-keeps, remove-keeps}
+use Rattle.rules.proofs.BoxSaysNo.{change-keeps}
 use Rattle.rules.proofs.SoundMemory.{Standing}
-use Rattle.rules.proofs.Theory.StandingKept.{insert-keeps-standing, remove-keeps-standing}
-use Rattle.rules.proofs.Reach.{KeepsMarks, reaches-only-stretches-means}
+use Rattle.rules.proofs.Theory.StandingKept.{empty-stands, insert-stands, removed-stands}
+use Rattle.rules.proofs.Reach.{KeepsMarks, others-keep-marks-means}
 use Rattle.rules.proofs.Theory.Stretches.{Side, sides, Clear, ClearAt, clear-edge-stays, edge-mark-stays, node-mark-stays, held-node-stays}
 
 -- the nodes of a standing profile are on the line
@@ -37,7 +40,7 @@ nodes-on-line p s n i =
 module _ (both touched : List Node) (p q : Profile) (after : Standing q)
     (s : Side both touched (p .nodes) (q .nodes)) (o : Side both touched (q .nodes) (p .nodes))
     (number : ℕ) (live : Each (λ b. b .number ≡ number → In b (q .bands)) (p .bands)) where
-  number-keeps-marks : KeepsMarks both touched p q number
+  pub number-keeps-marks : KeepsMarks both touched p q number
   number-keeps-marks = (
     λ i l e m clear h. (clear-edge-stays both touched (p .nodes) (q .nodes) s i e m o clear, on-edge i e clear (h .1)),
     λ n m clear h. on-node (n .key) clear (h .0) (h .1),
@@ -60,43 +63,92 @@ module _ (both touched : List Node) (p q : Profile) (after : Standing q)
             in-marked-on-node q number k .1 (b, j, (node-mark-stays both touched (p .nodes) (q .nodes) s o b k clear (t .2 .0), t .2 .1)),
           )
 
-module _ (p q : Profile) (before : Standing p) (after : Standing q) where
-  -- a band that is live in both of two standing profiles keeps every mark outside the stretches, and gains none there
+-- both ways, whichever nodes count as present throughout and which as touched
+module _ (both touched : List Node) (p q : Profile) (before : Standing p) (after : Standing q)
+    (s : Side both touched (p .nodes) (q .nodes)) (o : Side both touched (q .nodes) (p .nodes)) where
+  -- where each band that is not so is live in both of two standing profiles or in neither, a number of no band that is so keeps every mark outside
+  -- the stretches, and gains none there ..
+  pub other-number-keeps-marks : {P : Band → Type 0} → SameBut P p q → (number : ℕ) → NoneBy P number p → NoneBy P number q
+      → KeepsMarks both touched p q number × KeepsMarks both touched q p number
+  other-number-keeps-marks same number none-before none-after = (
+    number-keeps-marks both touched p q after s o number (λ b i e. same b (none-before b i e) .0 i),
+    number-keeps-marks both touched q p before o s number (λ b i e. same b (none-after b i e) .1 i),
+  )
+
+  -- .. and so does a band that is live in both
   pub same-band-keeps-marks : (b : Band) → In b (p .bands) → In b (q .bands)
-      → KeepsMarks (presentBoth (p .nodes) (q .nodes)) (madeOrDropped (p .nodes) (q .nodes)) p q (b .number)
-      × KeepsMarks (presentBoth (p .nodes) (q .nodes)) (madeOrDropped (p .nodes) (q .nodes)) q p (b .number)
-  same-band-keeps-marks b i j =
-      let s = sides (p .nodes) (q .nodes) (before .keys-ascend) (after .keys-ascend) (nodes-on-line p before) (nodes-on-line q after) in (
-        number-keeps-marks _ _ p q after (s .0) (s .1) (b .number) (only-one p q before i j),
-        number-keeps-marks _ _ q p before (s .1) (s .0) (b .number) (only-one q p after j i),
-      )
+      → KeepsMarks both touched p q (b .number) × KeepsMarks both touched q p (b .number)
+  same-band-keeps-marks b i j = (
+    number-keeps-marks both touched p q after s o (b .number) (only-one p q before i j),
+    number-keeps-marks both touched q p before o s (b .number) (only-one q p after j i),
+  )
     where
       only-one : (x y : Profile) → Standing x → In b (x .bands) → In b (y .bands) → Each (λ c. c .number ≡ b .number → In c (y .bands)) (x .bands)
-      only-one x y s k l c m e = subst (λ d. In d (y .bands)) (sym (ascends-once (λ d. d .number) 0 (x .bands) (s .numbers-ascend) c b m k e)) l
+      only-one x y t k l c m e = subst (λ d. In d (y .bands)) (sym (ascends-once (λ d. d .number) 0 (x .bands) (t .numbers-ascend) c b m k e)) l
 
-  -- where each band of another number is live in both or in neither, only stretches are reached
-  pub only-stretches-reached : (number : ℕ) → SameBut (λ b. b .number ≡ number) p q → reachesOnlyStretches number p q ≡ true
-  only-stretches-reached number alike =
-      reaches-only-stretches-means number p q .test (
-        λ b i. ⊎-map (λ e. e) (λ off. same-band-keeps-marks b i (alike b off .0 i) .0) (so-or-not (eq-means (b .number) number)),
-        λ b j. ⊎-map (λ e. e) (λ off. same-band-keeps-marks b (alike b off .1 j) j .1) (so-or-not (eq-means (b .number) number)),
+  -- so all bands that do not pass a test keep their marks there
+  pub others-keep-marks : {own : Band → Bool} {Own : Band → Type 0} → ((b : Band) → Means (own b) (Own b)) → SameBut Own p q
+      → othersKeepMarks own both touched p q ≡ true
+  others-keep-marks m same =
+      others-keep-marks-means m both touched p q .test (
+        λ b i. ⊎-map (λ e. e) (λ off. same-band-keeps-marks b i (same b off .0 i) .0) (so-or-not (m b)),
+        λ b j. ⊎-map (λ e. e) (λ off. same-band-keeps-marks b (same b off .1 j) j .1) (so-or-not (m b)),
       )
 
-module _ (sizesRight sound : Bool) (room : Room) (p : Profile) (s : Standing p) where
-  -- an insert, accepted or refused, reaches only stretches
-  pub insert-reaches-only-stretches : (b : Band) (lo hi : ℕ)
-      → reachesOnlyStretches (b .number) p (insertOutcome sizesRight sound room p b lo hi .after) ≡ true
-  insert-reaches-only-stretches b lo hi =
-      only-stretches-reached p _ s (insert-keeps-standing sizesRight sound room p b lo hi s) (b .number)
-      (insert-keeps (SameBut (λ c. c .number ≡ b .number) p) sizesRight sound room p b lo hi
-      (λ c off. Iff·rfl)
-      (λ t. insert-keeps-others p b lo hi (λ c. c .number ≡ b .number) refl))
+-- the two sides of any change from one standing profile to another
+pub standing-sides : (p q : Profile) → Standing p → Standing q
+    → Side (presentBoth (p .nodes) (q .nodes)) (madeOrDropped (p .nodes) (q .nodes)) (p .nodes) (q .nodes)
+    × Side (presentBoth (p .nodes) (q .nodes)) (madeOrDropped (p .nodes) (q .nodes)) (q .nodes) (p .nodes)
+standing-sides p q before after =
+    sides (p .nodes) (q .nodes) (before .keys-ascend) (after .keys-ascend) (nodes-on-line p before) (nodes-on-line q after)
 
-  -- a remove, accepted or refused, reaches only stretches
+module _ {own : Band → Bool} {Own : Band → Type 0} (m : (b : Band) → Means (own b) (Own b)) where
+  -- where each band that does not pass is live in both or in neither, only stretches are reached
+  pub only-stretches-reached : (p q : Profile) → Standing p → Standing q → SameBut Own p q → reachesOnlyStretches own p q ≡ true
+  unfolding reachesOnlyStretches
+  only-stretches-reached p q before after same =
+      let s = standing-sides p q before after in
+      others-keep-marks (presentBoth (p .nodes) (q .nodes)) (madeOrDropped (p .nodes) (q .nodes)) p q before after (s .0) (s .1) m same
+
+  -- so a change, accepted or refused, reaches only stretches, where, if nothing refuses it, the profile after it stands and only bands that pass come or go
+  pub change-reaches-only-stretches : (refusal : ℕ) (p q : Profile) → Standing p → (refusal ≡ 0 → Standing q × SameBut Own p q)
+      → reachesOnlyStretches own p (changed refusal p q .after) ≡ true
+  change-reaches-only-stretches refusal p q s after =
+      change-keeps (λ r. reachesOnlyStretches own p r ≡ true) refusal p q
+      (only-stretches-reached p p s s (λ b off. Iff·rfl))
+      (λ z. only-stretches-reached p q s (after z .0) (after z .1))
+
+module _ (sizesRight sound : Bool) (room : Room) (p : Profile) (s : Standing p) where
+  -- an insert does ..
+  pub insert-reaches-only-stretches : (b : Band) (lo hi : ℕ)
+      → reachesOnlyStretches (hasNumber (b .number)) p (insertOutcome sizesRight sound room p b lo hi .after) ≡ true
+  unfolding insertOutcome
+  insert-reaches-only-stretches b lo hi =
+      change-reaches-only-stretches (has-number-means (b .number)) (insertRefusal sizesRight sound room p b lo hi) p (inserted p b lo hi) s
+      (λ z. (insert-stands sizesRight sound room p b lo hi s z, insert-keeps-others p b lo hi (λ c. c .number ≡ b .number) refl))
+
+  -- .. a remove does ..
   pub remove-reaches-only-stretches : (number scope : ℕ)
-      → reachesOnlyStretches number p (removeOutcome sizesRight sound room p number scope .after) ≡ true
+      → reachesOnlyStretches (hasNumber number) p (removeOutcome sizesRight sound room p number scope .after) ≡ true
+  unfolding removeOutcome
   remove-reaches-only-stretches number scope =
-      only-stretches-reached p _ s (remove-keeps-standing sizesRight sound room p number scope s) number
-      (remove-keeps (SameBut (λ c. c .number ≡ number) p) sizesRight sound room p number scope
-      (λ c off. Iff·rfl)
-      (λ t. remove-keeps-others p number (λ c. c .number ≡ number) (λ c i e. e)))
+      change-reaches-only-stretches (has-number-means number) (removeRefusal sizesRight sound room p number scope) p (removed p number) s
+      (λ z. (removed-stands p number s, remove-keeps-others p number (λ c. c .number ≡ number) (λ c i e. e)))
+
+  -- .. a call that only reads reaches nothing ..
+  nothing-reached : reachesOnlyStretches (λ b. false) p p ≡ true
+  nothing-reached = only-stretches-reached (λ b. itself false) p p s s (λ b off. Iff·rfl)
+
+  -- .. and so every call, with the bands that are its own
+  pub call-reaches-only-stretches : (c : Call) → reachesOnlyStretches (ofCall c) p (callOutcome sizesRight sound room p c .after) ≡ true
+  unfolding emptyOutcome
+  call-reaches-only-stretches emptying =
+      change-reaches-only-stretches (λ b. itself true) (emptyRefusal sizesRight) p emptyProfile s (λ z. (empty-stands, λ b off. absurd (off refl)))
+  call-reaches-only-stretches (inserting b lo hi) = insert-reaches-only-stretches b lo hi
+  call-reaches-only-stretches (removing number scope) = remove-reaches-only-stretches number scope
+  call-reaches-only-stretches checking = nothing-reached
+  call-reaches-only-stretches (stabbing k) = nothing-reached
+  call-reaches-only-stretches (readingBand number) = nothing-reached
+  call-reaches-only-stretches (readingEdge k lane) = nothing-reached
+  call-reaches-only-stretches (readingNode k) = nothing-reached
+  call-reaches-only-stretches readingRoom = nothing-reached

@@ -1,4 +1,4 @@
--- `desk_answers::writing::put_flagged` is safe and ends. The loop's invariant: the buffer keeps its length.
+-- `desk_answers::writing::put_flagged` is safe and ends. The loop's invariant: what is lent keeps its length.
 -- Assumes nothing.
 use Prim.Native.Nat.{_-_}
 use mathlib.Core.Path.{_≡_}

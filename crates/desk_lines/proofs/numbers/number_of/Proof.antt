@@ -21,20 +21,17 @@ returns c = search needs
 loop-holds : tie.Need-loop-holds Inv-loop μ-loop
 loop-holds c = search needs
 
-shared-slice-read-byte : tie.Need-shared-slice-read-byte Inv-loop μ-loop
-shared-slice-read-byte c = search needs
+shared-slice-read-digit-of : tie.Need-shared-slice-read-digit-of Inv-loop μ-loop
+shared-slice-read-digit-of c = search needs
+
+digit-of-requires : tie.Need-digit-of-requires Inv-loop μ-loop
+digit-of-requires c κs = search needs
 
 wrong-requires-2 : tie.Need-wrong-requires-2 Inv-loop μ-loop
 wrong-requires-2 c κs = search needs
 
 returns-2 : tie.Need-returns-2 Inv-loop μ-loop
 returns-2 c = search needs
-
-wrong-requires-3 : tie.Need-wrong-requires-3 Inv-loop μ-loop
-wrong-requires-3 c κs = search needs
-
-returns-3 : tie.Need-returns-3 Inv-loop μ-loop
-returns-3 c = search needs
 
 with-digit-requires : tie.Need-with-digit-requires Inv-loop μ-loop
 with-digit-requires c κs = search needs
@@ -51,8 +48,8 @@ loop-again c = search needs
 read-as-requires : tie.Need-read-as-requires Inv-loop μ-loop
 read-as-requires c κs = search needs
 
-returns-4 : tie.Need-returns-4 Inv-loop μ-loop
-returns-4 c = search needs
+returns-3 : tie.Need-returns-3 Inv-loop μ-loop
+returns-3 c = search needs
 
 pub number-of-spec : {M : Type 1} → statement M
 number-of-spec =
@@ -63,14 +60,13 @@ number-of-spec =
     wrong-requires
     returns
     loop-holds
-    shared-slice-read-byte
+    shared-slice-read-digit-of
+    digit-of-requires
     wrong-requires-2
     returns-2
-    wrong-requires-3
-    returns-3
     with-digit-requires
     add-at
     loop-less
     loop-again
     read-as-requires
-    returns-4)
+    returns-3)

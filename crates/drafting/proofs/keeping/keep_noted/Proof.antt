@@ -34,13 +34,19 @@ shared-slice-read-if1 c = search needs
 node-word-requires-2 : tie.Need-node-word-requires-2 Inv-loop μ-loop
 node-word-requires-2 c κs = search needs
 
+cast-key : tie.Need-cast-key Inv-loop μ-loop
+cast-key c = search needs
+
 node-word-requires-3 : tie.Need-node-word-requires-3 Inv-loop μ-loop
 node-word-requires-3 c κs = search needs
+
+cast-level : tie.Need-cast-level Inv-loop μ-loop
+cast-level c = search needs
 
 add-node-requires : tie.Need-add-node-requires Inv-loop μ-loop
 add-node-requires c κs =
     let loop = c .before .before .before .before .before .before in
-    (omega (arith, fewer-drafted _ _ (loop .loop .inv)), search needs, search needs)
+    omega (arith, fewer-drafted _ _ (loop .loop .inv))
 
 add-place : tie.Need-add-place Inv-loop μ-loop
 add-place c = search needs
@@ -74,7 +80,9 @@ keep-noted-spec =
     mul-if1
     shared-slice-read-if1
     node-word-requires-2
+    cast-key
     node-word-requires-3
+    cast-level
     add-node-requires
     add-place
     loop-less

@@ -1,4 +1,4 @@
--- `hall::Band::fault` meets its contract: at each `return` the tests that led there say which line is the lowest that applies.
+-- `hall::Band::fault` meets its contract: at each `return` the tests that led there say which line is the first that applies.
 -- Assumes nothing.
 use mathlib.Core.Path.{sym, _∙_}
 use native.Mathlib.Omega.{arith}

@@ -1,0 +1,88 @@
+-- No second answer meets a call's promise: of two that meet what its `ensures` says, whatever it was lent and given, the answers are equal with every
+-- value beside them. Stated of the promise itself: one that said less would not settle the answer. What is lent to be read cannot change.
+-- Assumes nothing.
+use Prim.{Unit}
+use contract.Lifetimes.{Lfts}
+use Prim.Native.Nat.{ℕ}
+use mathlib.Core.Path.{_≡_, sym, _∙_, ap}
+use Rattle.rules.specs.Search.{Stab}
+use Rattle.rules.specs.Readouts.{BandRead as RuledBandRead, EdgeRead as RuledEdgeRead, NodeRead as RuledNodeRead, RoomRead as RuledRoomRead}
+use Rattle.rules.specs.BoxSaysNo.{Answered}
+use Rattle.hall.proofs.OneToOne.{answer-one-to-one, next-key-one-to-one}
+use Rattle.store.proofs.LentWords.{Lent}
+use Rattle.asking.specs.Says.{stabSays, bandReadSays, edgeReadSays, nodeReadSays, roomReadSays}
+use Rattle.asking.specs.declared.stabbing.StabRead.{StabRead}
+use Rattle.asking.specs.declared.band_readout.BandRead.{BandRead}
+use Rattle.asking.specs.declared.edge_readout.EdgeRead.{EdgeRead}
+use Rattle.asking.specs.declared.node_readout.NodeRead.{NodeRead}
+use Rattle.asking.specs.declared.room_readout.RoomRead.{RoomRead}
+use Rattle.asking.proofs.stabbing.stab.Reads.{Post as stabPromise}
+use Rattle.asking.proofs.band_readout.band.Reads.{Post as bandPromise}
+use Rattle.asking.proofs.edge_readout.edge.Reads.{Post as edgePromise}
+use Rattle.asking.proofs.node_readout.node.Reads.{Post as nodePromise}
+use Rattle.asking.proofs.room_readout.room.Reads.{Post as roomPromise}
+use Rattle.hall.specs.declared.keys.Key.{Key}
+
+-- ---- what an answer says tells it back
+
+stab-told-back : {said : Answered Stab} (a b : StabRead) → stabSays a ≡ said → stabSays b ≡ said → a ≡ b
+stab-told-back a b e f =
+    let same = e ∙ sym f in
+    let answer = answer-one-to-one (a .answer) (b .answer) (ap (λ s. s .refusal) same) in
+    λ i. record {
+      answer = answer i;
+      flags = same i .read .flags;
+      count = same i .read .count;
+      met = same i .read .met;
+      looks = same i .read .looks;
+    }
+
+band-told-back : {said : Answered RuledBandRead} (a b : BandRead) → bandReadSays a ≡ said → bandReadSays b ≡ said → a ≡ b
+band-told-back a b e f =
+    let same = e ∙ sym f in
+    let answer = answer-one-to-one (a .answer) (b .answer) (ap (λ s. s .refusal) same) in
+    λ i. record {
+      answer = answer i;
+      scope = same i .read .scope;
+      low = record { 0 = same i .read .low };
+      high = record { 0 = same i .read .high };
+      «low_closed» = same i .read .lowClosed;
+      «high_closed» = same i .read .highClosed;
+    }
+
+edge-told-back : {said : Answered RuledEdgeRead} (a b : EdgeRead) → edgeReadSays a ≡ said → edgeReadSays b ≡ said → a ≡ b
+edge-told-back a b e f =
+    let same = e ∙ sym f in
+    let answer = answer-one-to-one (a .answer) (b .answer) (ap (λ s. s .refusal) same) in
+    let next = next-key-one-to-one (a .next) (b .next) (ap (λ s. s .read .next) same) in
+    λ i. record { answer = answer i; next = next i; flags = same i .read .flags }
+
+node-told-back : {said : Answered RuledNodeRead} (a b : NodeRead) → nodeReadSays a ≡ said → nodeReadSays b ≡ said → a ≡ b
+node-told-back a b e f =
+    let same = e ∙ sym f in
+    let answer = answer-one-to-one (a .answer) (b .answer) (ap (λ s. s .refusal) same) in
+    λ i. record { answer = answer i; level = same i .read .level; flags = same i .read .flags }
+
+room-told-back : {said : Answered RuledRoomRead} (a b : RoomRead) → roomReadSays a ≡ said → roomReadSays b ≡ said → a ≡ b
+room-told-back a b e f =
+    let same = e ∙ sym f in
+    let answer = answer-one-to-one (a .answer) (b .answer) (ap (λ s. s .refusal) same) in
+    λ i. record { answer = answer i; nodes = same i .read .nodes; marks = same i .read .marks }
+
+-- ---- the promises
+
+module _ (κs : Lfts 3) where
+  pub stab-settled : (given x y : Lent (Key × Unit {0})) (a b : StabRead) → stabPromise κs given a x → stabPromise κs given b y → a ≡ b
+  stab-settled given x y a b p q = stab-told-back a b p q
+
+  pub band-settled : (given x y : Lent (ℕ × Unit {0})) (a b : BandRead) → bandPromise κs given a x → bandPromise κs given b y → a ≡ b
+  band-settled given x y a b p q = band-told-back a b p q
+
+  pub edge-settled : (given x y : Lent (Key × (ℕ × Unit {0}))) (a b : EdgeRead) → edgePromise κs given a x → edgePromise κs given b y → a ≡ b
+  edge-settled given x y a b p q = edge-told-back a b p q
+
+  pub node-settled : (given x y : Lent (Key × Unit {0})) (a b : NodeRead) → nodePromise κs given a x → nodePromise κs given b y → a ≡ b
+  node-settled given x y a b p q = node-told-back a b p q
+
+  pub room-settled : (given x y : Lent (Unit {0})) (a b : RoomRead) → roomPromise κs given a x → roomPromise κs given b y → a ≡ b
+  room-settled given x y a b p q = room-told-back a b p q

@@ -1,0 +1,64 @@
+// The band readout.
+ghost use mathlib.Core.Path.{_≡_};
+ghost use mathlib.Core.Option.{none};
+ghost use Rattle.rules.specs.Readouts.{bandReadOf};
+ghost use Rattle.rules.specs.BoxSaysNo.{saying};
+ghost use Rattle.hall.specs.Says.{refusalSays};
+ghost use Rattle.store.specs.Memory.{lent};
+ghost use Rattle.asking.specs.BandCall.{bandIn};
+ghost use Rattle.asking.specs.Says.{bandReadSays};
+use hall::Answer;
+use hall::Band;
+use hall::Key;
+use hall::Refusal;
+
+// A live band's scope, ends and closed ends.
+pub struct BandRead {
+    pub answer: Answer,
+    pub scope: u32,
+    pub low: Key,
+    pub high: Key,
+    pub low_closed: bool,
+    pub high_closed: bool,
+}
+
+// The band of a number.
+pub fn band(bands: &[u32], nodes: &[u32], marks: &[u32], number: u32) -> BandRead
+    ensures { λ r. ⌜ bandReadSays r ≡ bandIn (lent (now (bands .entry)) (now (nodes .entry)) (now (marks .entry))) number ⌝ }
+{
+    if !store::sizes_right(bands, nodes, marks) {
+        return refused(Refusal::MemoryUnfit);
+    }
+    if Band::HIGHEST_NUMBER < number {
+        return refused(Refusal::NumberAbove);
+    }
+    let place = number as usize;
+    if !store::is_live(bands, place) {
+        return refused(Refusal::NumberNotLive);
+    }
+    let band = store::band_at(bands, place);
+    let low = band.low;
+    let high = band.high;
+    BandRead {
+        answer: Answer::Done,
+        scope: band.scope,
+        low,
+        high,
+        low_closed: band.low_closed,
+        high_closed: band.high_closed,
+    }
+}
+
+// Zeros throughout beside the refusal.
+fn refused(refusal: Refusal) -> BandRead
+    ensures { λ r. ⌜ bandReadSays r ≡ saying (refusalSays refusal) (bandReadOf none) ⌝ }
+{
+    BandRead {
+        answer: Answer::Refused(refusal),
+        scope: 0,
+        low: Key(0),
+        high: Key(0),
+        low_closed: false,
+        high_closed: false,
+    }
+}

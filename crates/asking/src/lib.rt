@@ -1,0 +1,18 @@
+// The calls that only ask: the stab, and the readouts of a band, an edge, a node and the room used. They test sizes and write nothing.
+mod band_readout;
+mod edge_readout;
+mod judging;
+mod node_readout;
+mod room_readout;
+mod stabbing;
+
+pub use band_readout::BandRead;
+pub use band_readout::band;
+pub use edge_readout::EdgeRead;
+pub use edge_readout::edge;
+pub use node_readout::NodeRead;
+pub use node_readout::node;
+pub use room_readout::RoomRead;
+pub use room_readout::room;
+pub use stabbing::StabRead;
+pub use stabbing::stab;

@@ -1,0 +1,1 @@
+// What is demanded of the calls, of one and of any list of them, as theorems. No code.

@@ -1,0 +1,114 @@
+// Bytes on their way in: they are kept up to a line's end, and more are read where none are left.
+use crate::output;
+use crate::state::Desk;
+use crate::stores::BUFFER;
+use crate::stores::INPUT_START;
+use crate::stores::OUTPUT_START;
+use desk_lines::Command;
+use desk_lines::LINE_STORE;
+use libc::STDIN_FILENO;
+
+fn byte_at(bytes: &[u8], at: usize) -> u8 {
+    if at < bytes.len() { bytes[at] } else { 0 }
+}
+
+fn store_byte(bytes: &mut [u8], at: usize, byte: u8) {
+    if at < LINE_STORE {
+        if at < bytes.len() {
+            bytes[at] = byte;
+        }
+    }
+}
+
+// The line a byte longer. Beyond what is kept all that counts is that it is too long.
+fn keep_byte(bytes: &mut [u8], length: usize, byte: u8) -> usize {
+    store_byte(bytes, length, byte);
+    if LINE_STORE < length {
+        length
+    } else {
+        length + 1
+    }
+}
+
+// Takes the bytes that were read up to a line's end, or to the last.
+fn take_line(mut desk: Desk, bytes: &mut [u8]) -> Desk {
+    let mut kept = desk.line_length;
+    let mut next = desk.next;
+    let end = desk.end;
+    while next < end {
+        let byte = byte_at(bytes, next);
+        next += 1;
+        if byte == b'\n' {
+            desk.line_ended = true;
+            desk.line_length = kept;
+            desk.next = next;
+            return desk;
+        }
+        kept = keep_byte(bytes, kept, byte);
+    }
+    desk.line_length = kept;
+    desk.next = next;
+    desk
+}
+
+fn read(input: &mut [u8]) -> usize {
+    let got = libc::read(STDIN_FILENO, input);
+    io::count(got, input)
+}
+
+// Reads, and tells where what was read ends; where it starts, if there was nothing.
+fn read_input(bytes: &mut [u8]) -> usize {
+    let start = INPUT_START;
+    let end = OUTPUT_START;
+    if bytes.len() < end {
+        return start;
+    }
+    let count = read(&mut bytes[start..end]);
+    if count < BUFFER { start + count } else { end }
+}
+
+// Writes out the answers, and reads more. The input's end is the line's too.
+fn read_more(mut desk: Desk, bytes: &mut [u8]) -> Desk {
+    desk.written = output::flush(bytes, desk.written);
+    let end = read_input(bytes);
+    let ended = end == INPUT_START;
+    desk.next = INPUT_START;
+    desk.end = end;
+    desk.line_ended = ended;
+    desk.input_ended = ended;
+    desk
+}
+
+// Moves on to a line's end or, where no byte is left before one, reads more.
+fn move_on(desk: Desk, bytes: &mut [u8]) -> Desk {
+    let taken = take_line(desk, bytes);
+    if taken.line_ended {
+        taken
+    } else {
+        read_more(taken, bytes)
+    }
+}
+
+// The command that comes next, and the desk behind its line.
+pub struct Next {
+    pub desk: Desk,
+    pub command: Command,
+}
+
+// Nothing is to be done where no line has ended yet.
+pub(crate) fn next_command(desk: Desk, bytes: &mut [u8]) -> Next {
+    let mut moved = move_on(desk, bytes);
+    if moved.line_ended {
+        let length = moved.line_length;
+        moved.line_length = 0;
+        moved.line_ended = false;
+        return Next {
+            desk: moved,
+            command: desk_lines::read_line(bytes, length),
+        };
+    }
+    Next {
+        desk: moved,
+        command: Command::Nothing,
+    }
+}
