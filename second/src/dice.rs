@@ -1,4 +1,6 @@
-//! Seeded dice, so that every random run repeats from its seed.
+//! Seeded dice, so that every run repeats from its seeds.
+
+use std::collections::BTreeSet;
 
 /// A small generator (splitmix64): the state walks on by a fixed stride and each
 /// roll is a stirred copy of it.
@@ -11,6 +13,12 @@ impl Dice {
     /// Dice that always roll the same from the same seed.
     pub fn seeded(seed: u64) -> Dice {
         Dice { state: seed }
+    }
+
+    /// Dice of their own for every name and seed.
+    pub fn of(name: &str, seed: u64) -> Dice {
+        let stir = |state, byte| Dice::seeded(state ^ u64::from(byte)).roll();
+        Dice::seeded(name.bytes().fold(seed, stir))
     }
 
     /// Any 64 bits.
@@ -33,44 +41,23 @@ impl Dice {
     }
 
     /// One of the things, of which there must be some.
-    pub fn pick<T: Copy>(&mut self, things: &[T]) -> T {
-        things[self.below(things.len() as u32) as usize]
+    pub fn pick<T: Clone>(&mut self, things: &[T]) -> T {
+        things[self.below(things.len() as u32) as usize].clone()
     }
-}
 
-#[cfg(test)]
-mod tests {
-    use super::*;
-
-    #[test]
-    fn the_same_seed_rolls_the_same() {
-        let mut one = Dice::seeded(1_234_567);
-        let mut other = Dice::seeded(1_234_567);
-        for _ in 0..100 {
-            assert_eq!(one.roll(), other.roll());
+    /// Puts things into an order of the dice's.
+    pub fn shuffle<T>(&mut self, things: &mut [T]) {
+        for last in (1..things.len()).rev() {
+            things.swap(last, self.below(last as u32 + 1) as usize);
         }
-        assert_ne!(Dice::seeded(1).roll(), Dice::seeded(2).roll());
     }
 
-    #[test]
-    fn rolls_are_the_known_ones_of_this_generator() {
-        let mut dice = Dice::seeded(1_234_567);
-        let rolls: Vec<u64> = (0..3).map(|_| dice.roll()).collect();
-        let known = [
-            6_457_827_717_110_365_317,
-            3_203_168_211_198_807_973,
-            9_817_491_932_198_370_423,
-        ];
-        assert_eq!(rolls, known);
-    }
-
-    #[test]
-    fn every_face_turns_up() {
-        let mut dice = Dice::seeded(7);
-        let mut seen = [false; 6];
-        for _ in 0..200 {
-            seen[dice.below(6) as usize] = true;
+    /// So many different numbers below the bound, rising.
+    pub fn different(&mut self, many: usize, bound: u32) -> Vec<u32> {
+        let mut drawn = BTreeSet::new();
+        while drawn.len() < many {
+            drawn.insert(self.below(bound));
         }
-        assert_eq!(seen, [true; 6]);
+        drawn.into_iter().collect()
     }
 }

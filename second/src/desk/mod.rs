@@ -1,11 +1,8 @@
-//! The desk's protocol, as `docs/DESK.md` has it: commands, how they are written, and
-//! what is foreseen of each.
+//! What a desk is (`docs/DESK.md`): what it keeps, what a command is and how it is written,
+//! and what is foreseen of a line. The commands themselves stand in `calls`.
 
-pub mod answers;
-pub mod command;
-pub mod foreseeing;
 pub mod foreseen;
-pub mod kept_card;
-pub mod lending;
+pub mod foreseer;
+pub mod form;
 pub mod script;
 pub mod spelling;

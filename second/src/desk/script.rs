@@ -1,45 +1,53 @@
-//! Scripts: the lines that a desk is given.
+//! Scripts: the lines that a desk is given, each with what is foreseen of it.
 
-use super::command::Command;
 use super::foreseen::Foreseen;
+
+/// Lines that no command's name begins are counted under this.
+pub const OTHER: &str = "?";
 
 /// One line, without its line feed; a carriage return at its end belongs to the text.
 #[derive(Clone, Debug, PartialEq, Eq)]
-pub enum Line {
-    /// A command in some spelling of it.
-    Command {
-        /// What it asks.
-        command: Command,
-        /// How it is written.
-        text: Vec<u8>,
-    },
-    /// Anything that is no command: a blank line, a remark, wrong words.
-    Other {
-        /// How it is written.
-        text: Vec<u8>,
-        /// What the desk must answer, which such a line says by itself.
-        foreseen: Foreseen,
-    },
+pub struct Line {
+    /// What it is counted under: the name of a command, or `OTHER`.
+    pub name: &'static str,
+    /// How it is written.
+    pub text: Vec<u8>,
+    /// What it must be answered.
+    pub foreseen: Foreseen,
 }
 
-impl Line {
-    /// The bytes of the line.
-    pub fn text(&self) -> &[u8] {
-        match self {
-            Line::Command { text, .. } | Line::Other { text, .. } => text,
-        }
-    }
-}
-
-/// A whole input for a fresh desk.
+/// Lines for a desk that is as if it were fresh.
 #[derive(Clone, Debug, PartialEq, Eq)]
 pub struct Script {
-    /// The life and the seed that it was made from, as they are named on the command line.
-    pub name: String,
+    /// Its kind of life.
+    pub kind: &'static str,
+    /// Its seed.
+    pub seed: u64,
     /// The lines, in order.
     pub lines: Vec<Line>,
-    /// Whether a line feed stands after the last line too.
-    pub ends_with_line_feed: bool,
     /// The most bytes handed over at a time: the input comes in lumps.
     pub lump: usize,
+    /// Whether the input ends in the last line, with no line feed after it.
+    pub is_unended: bool,
+}
+
+impl Script {
+    /// How many of its lines are answered.
+    pub fn answers(&self) -> usize {
+        let is_answered = |line: &&Line| line.foreseen != Foreseen::Nothing;
+        self.lines.iter().filter(is_answered).count()
+    }
+
+    /// The bytes that a desk is given.
+    pub fn input(&self) -> Vec<u8> {
+        let mut input = Vec::new();
+        for line in &self.lines {
+            input.extend(&line.text);
+            input.push(b'\n');
+        }
+        if self.is_unended {
+            input.pop();
+        }
+        input
+    }
 }

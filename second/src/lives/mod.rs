@@ -1,39 +1,28 @@
 //! The lives: scripts made from a seed, each kind for something that could go wrong.
 
-mod asking;
 mod bench_card;
 mod console;
-pub(crate) mod drawing;
+pub mod endings;
 mod few_keys;
 mod few_marks;
 mod full;
+pub mod ground;
+pub mod kind;
 mod lumps;
 mod many_machines;
+mod odd_words;
 mod plans;
 mod rooms_at_limits;
 mod spoiled_bands;
 mod spoiled_words;
-mod spoiling;
+pub mod spoiling;
+pub mod telling;
 mod unsound;
-mod writing;
-pub(crate) mod wrong_arguments;
+pub mod writer;
 mod wrong_lengths;
+mod wrong_words;
 
-#[cfg(test)]
-mod tests;
-
-use crate::desk::script::Script;
-
-/// A kind of life.
-#[derive(Clone, Copy, Debug)]
-pub struct Kind {
-    /// Its name on the command line.
-    pub name: &'static str,
-    /// What it is for, in one line.
-    pub says: &'static str,
-    /// The script of a seed: always the same one.
-    pub make: fn(u64) -> Script,
-}
+use kind::Kind;
 
 /// Every kind of life.
 pub const KINDS: &[Kind] = &[

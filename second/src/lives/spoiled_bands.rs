@@ -4,26 +4,20 @@
 //! answer by these.
 
 use crate::dice::Dice;
+use crate::memory::words::BAND_PLACE;
+use std::ops::Range;
 
 /// A way to change the band words.
 pub type Spoil = fn(&mut Dice, &mut [u32]);
 
 /// Every way.
-pub const SPOILS: [Spoil; 6] = [
-    none_live,
-    all_gone,
-    one_more,
-    ends_of_another,
-    other_brackets,
-    junk,
-];
+pub const SPOILS: [Spoil; 6] =
+    [none_live, all_gone, one_more, ends_of_another, other_brackets, junk];
 
-/// Words of one band place.
-const BAND_PLACE: usize = 8;
 /// The words of a place that say the ends and whether they are closed.
-const STRETCH: std::ops::Range<usize> = 2..6;
+const STRETCH: Range<usize> = 2..6;
 /// The words among them that say whether an end is closed.
-const BRACKETS: std::ops::Range<usize> = 4..6;
+const BRACKETS: Range<usize> = 4..6;
 
 /// The places of the live bands, to be changed.
 fn live(bands: &mut [u32]) -> Vec<&mut [u32]> {
@@ -33,9 +27,7 @@ fn live(bands: &mut [u32]) -> Vec<&mut [u32]> {
 
 /// No number is live, and all else stays.
 fn none_live(_: &mut Dice, bands: &mut [u32]) {
-    for place in live(bands) {
-        place[0] = 0;
-    }
+    live(bands).into_iter().for_each(|place| place[0] = 0);
 }
 
 /// As if no band had ever been.
@@ -45,11 +37,10 @@ fn all_gone(_: &mut Dice, bands: &mut [u32]) {
 
 /// A number that is not live has the words of a live band, but no mark.
 fn one_more(_: &mut Dice, bands: &mut [u32]) {
-    let Some(words) = live(bands).pop().map(|place| place.to_vec()) else {
-        return;
-    };
+    let words = live(bands).pop().map(|place| place.to_vec());
     let mut places = bands.chunks_exact_mut(BAND_PLACE);
-    if let Some(free) = places.find(|place| place[0] == 0) {
+    let free = places.find(|place| place[0] == 0);
+    if let (Some(words), Some(free)) = (words, free) {
         free.copy_from_slice(&words);
     }
 }
@@ -78,23 +69,5 @@ fn junk(dice: &mut Dice, bands: &mut [u32]) {
     for _ in 0..30 {
         let index = dice.below(bands.len() as u32) as usize;
         bands[index] = dice.pick(&[1, 7, u32::MAX]);
-    }
-}
-
-#[cfg(test)]
-mod tests {
-    use super::*;
-    use crate::tests::bench_profile;
-    use crate::words::laid;
-
-    #[test]
-    fn every_way_spoils_the_bench_profile_and_leaves_what_is_marked() {
-        for (nth, spoil) in SPOILS.into_iter().enumerate() {
-            let mut words = laid(&bench_profile());
-            spoil(&mut Dice::seeded(1), &mut words.bands);
-            assert!(!words.check(), "way {nth}");
-            let alike = words.alike().expect("a profile that is marked alike");
-            assert_eq!(alike.marks, bench_profile().marks, "way {nth}");
-        }
     }
 }

@@ -1,142 +1,155 @@
-//! Many random lives, every call compared.
+//! What the lives must meet, all by what is foreseen of them.
 
-use super::compare::Parts;
-use super::life::{live, Setting, Tally};
-use super::*;
-use crate::hall::{first_key, last_key, HIGHEST_KEY};
-use crate::lives::drawing::Ground;
+use crate::calls::reading::line;
+use crate::desk::foreseen::Foreseen;
+use crate::desk::foreseer::Foreseer;
+use crate::desk::script::Script;
+use crate::drive::cutting::foresee_anew;
+use crate::drive::sessions::{afresh, sessions};
+use crate::drive::tally::{expected, Tally};
+use crate::lives::kind::Kind;
+use crate::lives::spoiling::{all_spots, sort_of};
+use crate::lives::KINDS;
+use std::collections::BTreeSet;
 
-/// A few keys at the start of machine 0, with rooms that are often too small.
-pub fn few_keys() -> Setting {
-    Setting {
-        ground: Ground {
-            ends: (0..12).collect(),
-            scopes: vec![0, HOUSE],
-            numbers: (0..9).collect(),
-            one_key_or_all: false,
-        },
-        node_room: 14,
-        mark_room: 60,
-        calls: 60,
-    }
+/// Every kind whose lives are made in no time.
+fn quick_kinds() -> impl Iterator<Item = &'static Kind> {
+    KINDS.iter().filter(|kind| kind.name != "full")
 }
 
-/// A few bands over everything and many one-key bands under them, with few marks:
-/// a removal can then need more marks, and an insert can save some.
-pub fn few_marks() -> Setting {
-    let few_keys = few_keys();
-    Setting {
-        ground: Ground {
-            one_key_or_all: true,
-            scopes: vec![HOUSE],
-            numbers: (0..30).collect(),
-            ..few_keys.ground
-        },
-        mark_room: 30,
-        ..few_keys
-    }
+fn script(kind: &str, seed: u64) -> Script {
+    let kind = KINDS.iter().find(|other| other.name == kind);
+    kind.expect("a kind").script(seed)
 }
 
-/// Keys at both ends of the line and nothing in the middle.
-pub fn both_ends_of_the_line() -> Setting {
-    let last = HIGHEST_KEY;
-    Setting {
-        ground: Ground {
-            ends: vec![0, 1, 2, 3, last - 3, last - 2, last - 1, last],
-            scopes: vec![0, 63, HOUSE],
-            numbers: (0..8).collect(),
-            one_key_or_all: false,
-        },
-        node_room: 10,
-        mark_room: 50,
-        calls: 50,
-    }
-}
-
-/// Keys at and near the borders of several machines.
-pub fn several_machines() -> Setting {
-    let machines = [0, 1, 2, 63];
-    let ends = machines.iter().flat_map(|&machine| {
-        let first = first_key(machine).unwrap();
-        let last = last_key(machine).unwrap();
-        [first, first + 1, first + 70, last]
-    });
-    Setting {
-        ground: Ground {
-            ends: ends.collect(),
-            scopes: vec![0, 1, 2, 63, HOUSE],
-            numbers: (0..14).collect(),
-            one_key_or_all: false,
-        },
-        node_room: 20,
-        mark_room: 90,
-        calls: 50,
-    }
-}
-
-/// Lives that never run out of room.
-pub fn room_to_spare() -> Setting {
-    Setting {
-        ground: Ground {
-            ends: (0..30).map(|nth| nth * 3).collect(),
-            scopes: vec![HOUSE],
-            numbers: (0..30).collect(),
-            one_key_or_all: false,
-        },
-        node_room: 2_048,
-        mark_room: 16_384,
-        calls: 60,
-    }
-}
-
-fn all_live(setting: &Setting, seeds: std::ops::Range<u64>) -> Tally {
-    let mut tally = Tally::new();
-    for seed in seeds {
-        let lived = live(setting, seed, &Parts::right(), &mut tally);
-        assert_eq!(lived, Ok(()));
-    }
-    tally
-}
-
-/// The lives must have met these answers, or they would prove little.
-fn assert_met(tally: &Tally, call: &'static str, answers: &[u8]) {
-    for &answer in answers {
-        let met = tally.contains_key(&(call, answer));
-        assert!(met, "{call} was never answered {answer}: {tally:?}");
+/// Shows what each line of a script is counted under, and the state after it.
+fn follow(script: &Script, mut show: impl FnMut(&str, &Foreseer)) {
+    let mut desk = Foreseer::new();
+    for each in &script.lines {
+        line(each.text.clone(), &mut desk);
+        show(each.name, &desk);
     }
 }
 
 #[test]
-fn lives_on_few_keys() {
-    let tally = all_live(&few_keys(), 0..60);
-    assert_met(&tally, "insert", &[0, 2, 3, 4, 5, 6, 7, 8, 11, 12]);
-    assert_met(&tally, "remove", &[0, 2, 3, 9, 10]);
+fn the_same_seed_is_the_same_script_and_another_seed_another() {
+    for kind in quick_kinds() {
+        assert_eq!(kind.script(1), kind.script(1), "{}", kind.name);
+        assert_ne!(kind.script(1).lines, kind.script(2).lines, "{}", kind.name);
+    }
 }
 
 #[test]
-fn lives_on_few_marks() {
-    let tally = all_live(&few_marks(), 160..200);
-    assert_met(&tally, "insert", &[0, 12]);
-    assert_met(&tally, "remove", &[0, 12]);
+fn every_spelling_of_a_command_is_read_as_the_command() {
+    for kind in quick_kinds() {
+        let script = kind.script(3);
+        let mut anew = script.clone();
+        foresee_anew(&mut anew);
+        assert_eq!(anew, script);
+        assert!(script.lines.iter().all(|line| !line.text.contains(&b'\n')));
+    }
 }
 
 #[test]
-fn lives_at_both_ends_of_the_line() {
-    let tally = all_live(&both_ends_of_the_line(), 100..140);
-    assert_met(&tally, "insert", &[0, 4, 6, 11, 12]);
-    assert_met(&tally, "remove", &[0]);
+fn the_sum_is_asked_for_after_every_call_that_may_change_the_profile() {
+    for kind in quick_kinds() {
+        for pair in kind.script(2).lines.windows(2) {
+            let is_change = ["insert", "remove", "empty"].contains(&pair[0].name);
+            let is_wrong = matches!(&pair[0].foreseen, Foreseen::Exactly(answer, _) if answer.starts_with('?'));
+            let is_spelled_out = kind.name == "console";
+            assert!(!is_change || is_wrong || is_spelled_out || pair[1].name == "sum");
+        }
+    }
 }
 
 #[test]
-fn lives_over_several_machines() {
-    let tally = all_live(&several_machines(), 200..230);
-    assert_met(&tally, "insert", &[0, 6, 11, 12]);
-    assert_met(&tally, "remove", &[0, 10]);
+fn a_few_lives_of_all_kinds_meet_every_answer_there_is() {
+    let mut tally = Tally::default();
+    for kind in quick_kinds() {
+        for seed in 0..4 {
+            tally.count(&kind.script(seed));
+        }
+    }
+    assert_eq!(tally.complaints(), [""; 0]);
 }
 
 #[test]
-fn lives_with_room_to_spare() {
-    let tally = all_live(&room_to_spare(), 300..310);
-    assert_met(&tally, "insert", &[0, 8]);
-    assert_met(&tally, "remove", &[0]);
+fn a_run_that_never_saw_an_answer_is_complained_about() {
+    let mut tally = Tally::default();
+    let many: usize = expected().iter().map(|(_, answers)| answers.len()).sum();
+    assert_eq!(tally.complaints().len(), many);
+    for complaint in [
+        "remove answered 12",
+        "? answered ? line too long",
+        "card scan answered 8 at the last place",
+    ] {
+        assert!(tally.complaints().contains(&format!("never seen: {complaint}")));
+    }
+    let mut strange = script("few_keys", 0);
+    strange.lines.truncate(1);
+    strange.lines[0].foreseen = Foreseen::whole("13");
+    tally.count(&strange);
+    assert!(tally.complaints().contains(&"not known: memory answered 13".to_string()));
+}
+
+#[test]
+fn a_desk_made_afresh_is_a_fresh_one() {
+    let mut desk = Foreseer::new();
+    for each in script("bench_card", 0).lines.iter().chain(&afresh().lines) {
+        line(each.text.clone(), &mut desk);
+    }
+    assert_eq!(desk.lending(), Foreseer::new().lending());
+    assert_eq!(desk.card, []);
+}
+
+#[test]
+fn a_round_has_every_seed_of_every_kind_once() {
+    let sessions = sessions(1);
+    let mut lives: Vec<(&str, u64)> = sessions.iter().flat_map(|session| session.lives()).collect();
+    lives.sort();
+    let all =
+        KINDS.iter().flat_map(|kind| (kind.seeds..2 * kind.seeds).map(|seed| (kind.name, seed)));
+    let mut all: Vec<(&str, u64)> = all.collect();
+    all.sort();
+    assert_eq!(lives, all);
+}
+
+#[test]
+fn words_of_every_sort_are_spoiled_in_every_script() {
+    for seed in 0..4 {
+        let mut spoiled = BTreeSet::new();
+        let mut before = Foreseer::new();
+        follow(&script("spoiled_words", seed), |name, after| {
+            if name == "poke" && before.profile().is_some() {
+                let (words, now) = (before.lending().words(), after.lending().words());
+                let changed = all_spots(&words).find(|&(slice, index)| {
+                    words.of(slice)[index as usize] != now.of(slice)[index as usize]
+                });
+                spoiled.extend(changed.map(|spot| sort_of(&words, spot)));
+            }
+            before = after.clone();
+        });
+        let (bands, header, nodes, marks) = (2 * 8, 20, 2 * 20, 2);
+        assert_eq!(spoiled.len(), bands + header + nodes + marks);
+    }
+}
+
+#[test]
+fn full_profiles_have_every_number_every_node_place_and_the_longest_answers() {
+    let (mut nodes, mut looks, mut count) = (0, 0, 0);
+    for line in script("full", 0).lines {
+        if let Foreseen::Exactly(answer, _) = line.foreseen {
+            let words: Vec<&str> = answer.split(' ').collect();
+            let number = |word: &str| word.parse::<u32>().expect("a number");
+            match words[..] {
+                ["0", "nodes", many, ..] => nodes = nodes.max(number(many)),
+                ["0", "count", found, "met", _, "looks", steps, ..] => {
+                    looks = looks.max(number(steps));
+                    count = count.max(number(found));
+                }
+                _ => {}
+            }
+        }
+    }
+    assert_eq!((nodes, looks, count), (2_048, 8 + 2_048, 1_024));
 }
