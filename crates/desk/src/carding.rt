@@ -2,14 +2,12 @@
 use crate::lending;
 use crate::state::Desk;
 use crate::state::Done;
+use crate::stores::CARD_WORDS;
 use desk_answers::Told;
-use desk_lines::Card;
+use desk_lines::Command;
 use desk_lines::Fault;
 use hall::Band;
 use hall::Key;
-
-// The words that the card has, the first of the desk's own.
-const CARD_WORDS: usize = card::RECORD_WORDS * card::MOST_RECORDS;
 
 fn with_card(mut desk: Desk, card_end: usize) -> Done {
     desk.card_end = card_end;
@@ -19,7 +17,7 @@ fn with_card(mut desk: Desk, card_end: usize) -> Done {
 fn add(desk: Desk, band: Band, records: &mut [u32]) -> Done {
     let end = desk.card_end;
     if CARD_WORDS <= end {
-        return desk.told(desk_answers::fault_answer(Fault::CardFull));
+        return desk.told(desk_answers::fault_answer(Fault::CARD_FULL));
     }
     card::lay_record(records, end / card::RECORD_WORDS, band);
     with_card(desk, end + card::RECORD_WORDS)
@@ -31,10 +29,11 @@ fn scan(card_end: usize, key: Key, records: &[u32]) -> Told {
     desk_answers::scan_answer(card::scan_words(&records[zero..end], key))
 }
 
-pub(crate) fn do_card(desk: Desk, asked: Card, records: &mut [u32]) -> Done {
-    match asked {
-        Card::Clear => with_card(desk, 0),
-        Card::Add(band) => add(desk, band, records),
-        Card::Scan(key) => desk.told(scan(desk.card_end, key, records)),
+pub(crate) fn do_card(desk: Desk, command: Command, records: &mut [u32]) -> Done {
+    let which = command.which;
+    match which {
+        b'a' => add(desk, command.band(), records),
+        b's' => desk.told(scan(desk.card_end, command.key(), records)),
+        _ => with_card(desk, 0),
     }
 }

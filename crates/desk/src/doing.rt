@@ -1,66 +1,81 @@
-// A command done: on the desk's words, with its answer.
+// A command done, with its answer: on the words that are lent, or on what is the desk's own.
 use crate::calling;
 use crate::carding;
 use crate::lending;
 use crate::lending::Found;
+use crate::lending::Lent;
 use crate::poking;
 use crate::state::Desk;
 use crate::state::Done;
+use crate::stores::BAND_STORE;
+use crate::stores::CARD_WORDS;
+use crate::stores::MARK_STORE;
+use crate::stores::NODE_STORE;
+use desk_answers::Told;
 use desk_lines::Command;
 use desk_lines::Fault;
-use desk_lines::Lending;
 
-fn lend(mut desk: Desk, lending: Lending) -> Done {
-    match lending::find(lending) {
+// On the words that are lent. Any other command changes none, and nothing is told of it here.
+fn on_lent(command: Command, bands: &mut [u32], nodes: &mut [u32], marks: &mut [u32]) -> Told {
+    let kind = command.kind;
+    match kind {
+        b'w' => poking::poke_all(command, bands, nodes, marks),
+        b'c' => calling::change(command, bands, nodes, marks),
+        b'a' => calling::ask(command, bands, nodes, marks),
+        _ => desk_answers::nothing(),
+    }
+}
+
+// On so many words of each store.
+fn on_part(
+    command: Command,
+    lent: Lent,
+    bands: &mut [u32],
+    nodes: &mut [u32],
+    marks: &mut [u32],
+) -> Told {
+    on_lent(
+        command,
+        lending::part(bands, lent.bands),
+        lending::part(nodes, lent.nodes),
+        lending::part(marks, lent.marks),
+    )
+}
+
+// On the stores, of which so many words are lent.
+pub(crate) fn on_words(
+    command: Command,
+    lent: Lent,
+    bands: &mut [u32; BAND_STORE],
+    nodes: &mut [u32; NODE_STORE],
+    marks: &mut [u32; MARK_STORE],
+) -> Told {
+    on_part(command, lent, bands, nodes, marks)
+}
+
+fn lend(mut desk: Desk, command: Command) -> Done {
+    match lending::find(command) {
         Found::Lent(lent) => {
             desk.lent = lent;
             desk.told(desk_answers::done())
         }
-        Found::NoSuchMemory => desk.told(desk_answers::fault_answer(Fault::NoSuchMemory)),
+        Found::NoSuchMemory => desk.told(desk_answers::fault_answer(Fault::NO_SUCH_MEMORY)),
     }
 }
 
-// On the words that are lent, and on the desk's own.
-fn do_command(
+// On what is the desk's own; of a command on the lent words it is told what was told of it.
+pub(crate) fn on_own(
     desk: Desk,
     command: Command,
-    bands: &mut [u32],
-    nodes: &mut [u32],
-    marks: &mut [u32],
-    words: &mut [u32],
+    told: Told,
+    records: &mut [u32; CARD_WORDS],
 ) -> Done {
-    match command {
-        Command::Nothing => desk.told(desk_answers::nothing()),
-        Command::Wrong(fault) => desk.told(desk_answers::fault_answer(fault)),
-        Command::Help => desk.told(desk_answers::help_answer()),
-        Command::Lend(lending) => lend(desk, lending),
-        Command::Words(poking) => desk.told(poking::do_poking(poking, bands, nodes, marks)),
-        Command::Change(change) => desk.told(calling::change(change, bands, nodes, marks)),
-        Command::Ask(question) => desk.told(calling::ask(question, bands, nodes, marks)),
-        Command::Card(asked) => carding::do_card(desk, asked, words),
+    let kind = command.kind;
+    match kind {
+        b'?' => desk.told(desk_answers::fault_answer(command.fault())),
+        b'h' => desk.told(desk_answers::help_answer()),
+        b'l' => lend(desk, command),
+        b'b' => carding::do_card(desk, command, records),
+        _ => desk.told(told),
     }
-}
-
-// Lends the words and has the command done.
-pub(crate) fn lend_for(
-    desk: Desk,
-    command: Command,
-    bands: &mut [u32],
-    nodes: &mut [u32],
-    marks: &mut [u32],
-    words: &mut [u32],
-) -> Done {
-    let zero = 0;
-    let lent = desk.lent;
-    let band_end = lending::end_in(lent.bands, bands);
-    let node_end = lending::end_in(lent.nodes, nodes);
-    let mark_end = lending::end_in(lent.marks, marks);
-    do_command(
-        desk,
-        command,
-        &mut bands[zero..band_end],
-        &mut nodes[zero..node_end],
-        &mut marks[zero..mark_end],
-        words,
-    )
 }

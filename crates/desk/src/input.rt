@@ -4,25 +4,20 @@ use crate::state::Desk;
 use crate::stores::BUFFER;
 use crate::stores::INPUT_START;
 use crate::stores::OUTPUT_START;
+use crate::stores::OWN_BYTES;
 use desk_lines::Command;
 use desk_lines::LINE_STORE;
 use libc::STDIN_FILENO;
 
-fn byte_at(bytes: &[u8], at: usize) -> u8 {
-    if at < bytes.len() { bytes[at] } else { 0 }
-}
-
-fn store_byte(bytes: &mut [u8], at: usize, byte: u8) {
-    if at < LINE_STORE {
-        if at < bytes.len() {
-            bytes[at] = byte;
-        }
-    }
+fn byte_at(bytes: &[u8; OWN_BYTES], at: usize) -> u8 {
+    if at < OWN_BYTES { bytes[at] } else { 0 }
 }
 
 // The line a byte longer. Beyond what is kept all that counts is that it is too long.
-fn keep_byte(bytes: &mut [u8], length: usize, byte: u8) -> usize {
-    store_byte(bytes, length, byte);
+fn keep_byte(bytes: &mut [u8; OWN_BYTES], length: usize, byte: u8) -> usize {
+    if length < LINE_STORE {
+        bytes[length] = byte;
+    }
     if LINE_STORE < length {
         length
     } else {
@@ -30,11 +25,12 @@ fn keep_byte(bytes: &mut [u8], length: usize, byte: u8) -> usize {
     }
 }
 
-// Takes the bytes that were read up to a line's end, or to the last.
-fn take_line(mut desk: Desk, bytes: &mut [u8]) -> Desk {
-    let mut kept = desk.line_length;
+// Takes the bytes that were read up to a line's end, or to the last. A line that had ended is done with.
+fn take_line(mut desk: Desk, bytes: &mut [u8; OWN_BYTES]) -> Desk {
+    let mut kept = desk.kept();
     let mut next = desk.next;
     let end = desk.end;
+    desk.line_ended = false;
     while next < end {
         let byte = byte_at(bytes, next);
         next += 1;
@@ -68,7 +64,7 @@ fn read_input(bytes: &mut [u8]) -> usize {
 }
 
 // Writes out the answers, and reads more. The input's end is the line's too.
-fn read_more(mut desk: Desk, bytes: &mut [u8]) -> Desk {
+fn read_more(mut desk: Desk, bytes: &mut [u8; OWN_BYTES]) -> Desk {
     desk.written = output::flush(bytes, desk.written);
     let end = read_input(bytes);
     let ended = end == INPUT_START;
@@ -80,7 +76,7 @@ fn read_more(mut desk: Desk, bytes: &mut [u8]) -> Desk {
 }
 
 // Moves on to a line's end or, where no byte is left before one, reads more.
-fn move_on(desk: Desk, bytes: &mut [u8]) -> Desk {
+pub(crate) fn move_on(desk: Desk, bytes: &mut [u8; OWN_BYTES]) -> Desk {
     let taken = take_line(desk, bytes);
     if taken.line_ended {
         taken
@@ -89,26 +85,11 @@ fn move_on(desk: Desk, bytes: &mut [u8]) -> Desk {
     }
 }
 
-// The command that comes next, and the desk behind its line.
-pub struct Next {
-    pub desk: Desk,
-    pub command: Command,
-}
-
-// Nothing is to be done where no line has ended yet.
-pub(crate) fn next_command(desk: Desk, bytes: &mut [u8]) -> Next {
-    let mut moved = move_on(desk, bytes);
-    if moved.line_ended {
-        let length = moved.line_length;
-        moved.line_length = 0;
-        moved.line_ended = false;
-        return Next {
-            desk: moved,
-            command: desk_lines::read_line(bytes, length),
-        };
-    }
-    Next {
-        desk: moved,
-        command: Command::Nothing,
+// The command of the line that has ended; nothing is to be done where none has.
+pub(crate) fn command(desk: Desk, bytes: &[u8; OWN_BYTES]) -> Command {
+    if desk.line_ended {
+        desk_lines::read_line(bytes, desk.line_length)
+    } else {
+        Command::nothing()
     }
 }

@@ -4,7 +4,7 @@ ghost use lib.ListN.{length};
 use crate::stores::BAND_STORE;
 use crate::stores::MARK_STORE;
 use crate::stores::NODE_STORE;
-use desk_lines::Lending;
+use desk_lines::Command;
 
 // The most nodes for which there are words.
 const MOST_NODE_ROOM: u32 = 2050;
@@ -45,12 +45,15 @@ fn memory(nodes: u32, marks: u32) -> Found {
     )
 }
 
-pub(crate) fn find(lending: Lending) -> Found {
-    match lending {
-        Lending::Memory(nodes, marks) => memory(nodes, marks),
-        Lending::Lengths(bands, nodes, marks) => {
-            lengths(bands as usize, nodes as usize, marks as usize)
-        }
+pub(crate) fn find(command: Command) -> Found {
+    let which = command.which;
+    match which {
+        b'm' => memory(command.first, command.second),
+        _ => lengths(
+            command.first as usize,
+            command.second as usize,
+            command.third as usize,
+        ),
     }
 }
 
@@ -72,4 +75,11 @@ pub(crate) fn end_in(lent: usize, store: &[u32]) -> usize
     } else {
         store.len()
     }
+}
+
+// The lent words of a store.
+pub(crate) fn part(store: &mut [u32], lent: usize) -> &mut [u32] {
+    let zero = 0;
+    let end = end_in(lent, store);
+    &mut store[zero..end]
 }

@@ -1,6 +1,8 @@
 // Answers on their way out: they are kept until all that was read is done, or their store fills.
 use crate::state::Desk;
+use crate::state::Done;
 use crate::stores::OUTPUT_START;
+use crate::stores::OWN_BYTES;
 use desk_answers::Told;
 use libc::STDOUT_FILENO;
 
@@ -29,7 +31,9 @@ fn make_room(bytes: &[u8], written: usize) -> usize {
 }
 
 // Keeps an answer; at the input's end all are written out.
-pub(crate) fn tell(mut desk: Desk, told: Told, bytes: &mut [u8]) -> Desk {
+pub(crate) fn tell(done: Done, bytes: &mut [u8; OWN_BYTES]) -> Desk {
+    let mut desk = done.desk;
+    let told = done.told;
     let start = make_room(bytes, desk.written);
     let written = desk_answers::tell(bytes, start, told);
     desk.written = written;

@@ -1,13 +1,19 @@
-// The lent words as words: filled, poked, peeked at and summed.
+// The lent words as words: filled, poked, peeked at and summed, one slice after the other.
 use desk_answers::Told;
+use desk_lines::Command;
 use desk_lines::Fault;
-use desk_lines::Poking;
 use desk_lines::Slice;
 
 // Each word is added to so many times the sum of those before it, modulo a prime.
 const TIMES: u64 = 31;
 
 const PRIME: u64 = 4294967291;
+
+// What came of it so far: whether the word that is meant was found, and the word or the sum.
+pub struct Poked {
+    pub found: bool,
+    pub number: u32,
+}
 
 fn fill(words: &mut [u32], word: u32) {
     let mut at = 0;
@@ -17,12 +23,35 @@ fn fill(words: &mut [u32], word: u32) {
     }
 }
 
-// The sum with a word more.
-fn sum_with(sum: u64, word: u32) -> u64 {
-    (sum % PRIME * TIMES + word as u64 + 1) % PRIME
+fn poke(words: &mut [u32], index: u32, word: u32) -> Poked {
+    let at = index as usize;
+    let found = at < words.len();
+    if found {
+        words[at] = word;
+    }
+    Poked { found, number: 0 }
 }
 
-fn sum_on(sum: u64, words: &[u32]) -> u64 {
+fn peek(words: &[u32], index: u32) -> Poked {
+    let at = index as usize;
+    if at < words.len() {
+        return Poked {
+            found: true,
+            number: words[at],
+        };
+    }
+    Poked {
+        found: false,
+        number: 0,
+    }
+}
+
+// The sum with a word more.
+fn sum_with(sum: u32, word: u32) -> u32 {
+    ((sum as u64 * TIMES + word as u64 + 1) % PRIME) as u32
+}
+
+fn sum_on(sum: u32, words: &[u32]) -> u32 {
     let mut so_far = sum;
     let mut at = 0;
     while at < words.len() {
@@ -32,68 +61,62 @@ fn sum_on(sum: u64, words: &[u32]) -> u64 {
     so_far
 }
 
-fn poke(words: &mut [u32], index: u32, word: u32) -> Told {
-    let at = index as usize;
-    if words.len() <= at {
-        return desk_answers::fault_answer(Fault::NoSuchWord);
+// A word of the slice that is meant, poked or peeked at.
+fn touch(command: Command, words: &mut [u32]) -> Poked {
+    if command.which == b'o' {
+        poke(words, command.second, command.third)
+    } else {
+        peek(words, command.second)
     }
-    words[at] = word;
-    desk_answers::done()
 }
 
-fn peek(words: &[u32], index: u32) -> Told {
-    let at = index as usize;
-    if words.len() <= at {
-        return desk_answers::fault_answer(Fault::NoSuchWord);
+// On one slice, after what came of those before it.
+fn poke_slice(command: Command, slice: Slice, before: Poked, words: &mut [u32]) -> Poked {
+    let which = command.which;
+    match which {
+        b'f' => {
+            fill(words, command.first);
+            Poked {
+                found: true,
+                number: 0,
+            }
+        }
+        b's' => Poked {
+            found: true,
+            number: sum_on(before.number, words),
+        },
+        _ => {
+            if command.first == slice.0 {
+                touch(command, words)
+            } else {
+                before
+            }
+        }
     }
-    desk_answers::number_answer(words[at])
 }
 
-fn poke_in(
-    slice: Slice,
-    index: u32,
-    word: u32,
+fn poked_answer(which: u8, poked: Poked) -> Told {
+    if !poked.found {
+        return desk_answers::fault_answer(Fault::NO_SUCH_WORD);
+    }
+    match which {
+        b'f' | b'o' => desk_answers::done(),
+        _ => desk_answers::number_answer(poked.number),
+    }
+}
+
+pub(crate) fn poke_all(
+    command: Command,
     bands: &mut [u32],
     nodes: &mut [u32],
     marks: &mut [u32],
 ) -> Told {
-    match slice {
-        Slice::Bands => poke(bands, index, word),
-        Slice::Nodes => poke(nodes, index, word),
-        Slice::Marks => poke(marks, index, word),
-    }
-}
-
-fn peek_in(slice: Slice, index: u32, bands: &[u32], nodes: &[u32], marks: &[u32]) -> Told {
-    match slice {
-        Slice::Bands => peek(bands, index),
-        Slice::Nodes => peek(nodes, index),
-        Slice::Marks => peek(marks, index),
-    }
-}
-
-fn fill_all(word: u32, bands: &mut [u32], nodes: &mut [u32], marks: &mut [u32]) -> Told {
-    fill(bands, word);
-    fill(nodes, word);
-    fill(marks, word);
-    desk_answers::done()
-}
-
-fn sum_all(bands: &[u32], nodes: &[u32], marks: &[u32]) -> Told {
-    let sum = sum_on(sum_on(sum_on(0, bands), nodes), marks);
-    desk_answers::number_answer((sum % PRIME) as u32)
-}
-
-pub(crate) fn do_poking(
-    poking: Poking,
-    bands: &mut [u32],
-    nodes: &mut [u32],
-    marks: &mut [u32],
-) -> Told {
-    match poking {
-        Poking::Fill(word) => fill_all(word, bands, nodes, marks),
-        Poking::Poke(slice, index, word) => poke_in(slice, index, word, bands, nodes, marks),
-        Poking::Peek(slice, index) => peek_in(slice, index, bands, nodes, marks),
-        Poking::Sum => sum_all(bands, nodes, marks),
-    }
+    let none = Poked {
+        found: false,
+        number: 0,
+    };
+    let after_bands = poke_slice(command, Slice::BANDS, none, bands);
+    let after_nodes = poke_slice(command, Slice::NODES, after_bands, nodes);
+    let after_marks = poke_slice(command, Slice::MARKS, after_nodes, marks);
+    poked_answer(command.which, after_marks)
 }

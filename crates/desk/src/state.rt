@@ -42,6 +42,11 @@ impl Desk {
         }
     }
 
+    // How much is kept of the line that is being read.
+    pub(crate) fn kept(self) -> usize {
+        if self.line_ended { 0 } else { self.line_length }
+    }
+
     // Where nothing of the desk has changed.
     pub(crate) fn told(self, told: Told) -> Done {
         Done { desk: self, told }

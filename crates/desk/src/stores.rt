@@ -8,8 +8,8 @@ pub const NODE_STORE: usize = 41020;
 
 pub const MARK_STORE: usize = 16400;
 
-// Words of its own: the bench card's.
-pub const OWN_WORDS: usize = card::RECORD_WORDS * card::MOST_RECORDS;
+// The bench card's words.
+pub const CARD_WORDS: usize = card::RECORD_WORDS * card::MOST_RECORDS;
 
 // How many bytes are read at a time, and how many are kept before they are written.
 pub const BUFFER: usize = 65536;

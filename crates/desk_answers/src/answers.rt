@@ -34,7 +34,7 @@ pub fn help_answer() -> Told {
 pub fn fault_answer(fault: Fault) -> Told {
     plain(
         *b"? !.                                    ",
-        words(fault.number(), 0, 0),
+        words(fault.0, 0, 0),
     )
 }
 

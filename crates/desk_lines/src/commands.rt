@@ -1,145 +1,80 @@
-// What a line asks of the desk, by kind, each with the letters of the table that tell it.
+// What a line asks of the desk.
 use crate::faults::Fault;
 use crate::said;
 use crate::said::Said;
 use hall::Band;
 use hall::Key;
 
-// Which words are lent from here on.
-pub enum Lending {
-    // Rooms for nodes and for marks.
-    Memory(u32, u32),
-    // Words of bands, nodes and marks.
-    Lengths(u32, u32, u32),
-}
-
-impl Lending {
-    fn of(which: u8, said: Said) -> Lending {
-        match which {
-            b'm' => Lending::Memory(said[0], said[1]),
-            _ => Lending::Lengths(said[0], said[1], said[2]),
-        }
-    }
-}
-
-pub enum Slice {
-    Bands,
-    Nodes,
-    Marks,
-}
-
-impl Slice {
-    // By the number that `slices.rt` gives it.
-    fn of(number: u32) -> Slice {
-        match number {
-            0 => Slice::Bands,
-            1 => Slice::Nodes,
-            _ => Slice::Marks,
-        }
-    }
-}
-
-// The lent words as words.
-pub enum Poking {
-    Fill(u32),
-    // The index and the word to stand there.
-    Poke(Slice, u32, u32),
-    Peek(Slice, u32),
-    Sum,
-}
-
-impl Poking {
-    fn of(which: u8, said: Said) -> Poking {
-        match which {
-            b'f' => Poking::Fill(said[0]),
-            b'o' => Poking::Poke(Slice::of(said[0]), said[1], said[2]),
-            b'e' => Poking::Peek(Slice::of(said[0]), said[1]),
-            _ => Poking::Sum,
-        }
-    }
-}
-
-// Calls that change the profile.
-pub enum Change {
-    Empty,
-    // The levels given for the low end and for the high end.
-    Insert(Band, u32, u32),
-    // A number and a scope.
-    Remove(u32, u32),
-}
-
-impl Change {
-    fn of(which: u8, said: Said) -> Change {
-        match which {
-            b'i' => Change::Insert(said::band_of(said), said[3], said[4]),
-            b'r' => Change::Remove(said[0], said[1]),
-            _ => Change::Empty,
-        }
-    }
-}
-
-// Calls that change nothing.
-pub enum Question {
-    Stab(Key),
-    Check,
-    Band(u32),
-    // A node's key and a lane.
-    Edge(Key, u32),
-    Node(Key),
-    Room,
-}
-
-impl Question {
-    fn of(which: u8, said: Said) -> Question {
-        match which {
-            b's' => Question::Stab(Key(said[0])),
-            b'b' => Question::Band(said[0]),
-            b'e' => Question::Edge(Key(said[0]), said[1]),
-            b'n' => Question::Node(Key(said[0])),
-            b'r' => Question::Room,
-            _ => Question::Check,
-        }
-    }
-}
-
-// The bench card: a list of records of the desk's own.
-pub enum Card {
-    Clear,
-    Add(Band),
-    Scan(Key),
-}
-
-impl Card {
-    fn of(which: u8, said: Said) -> Card {
-        match which {
-            b'a' => Card::Add(said::band_of(said)),
-            b's' => Card::Scan(Key(said[0])),
-            _ => Card::Clear,
-        }
-    }
-}
-
-pub enum Command {
-    // A line without a word, or a remark.
-    Nothing,
-    Wrong(Fault),
-    Help,
-    Lend(Lending),
-    Words(Poking),
-    Change(Change),
-    Ask(Question),
-    Card(Card),
+pub struct Command {
+    // By the table's letters: its kind, and which of that kind.
+    pub kind: u8,
+    pub which: u8,
+    // What its words say, by their place behind the name: a number, a key or a slice.
+    pub first: u32,
+    pub second: u32,
+    pub third: u32,
+    pub fourth: u32,
+    pub fifth: u32,
+    // Its stretch.
+    pub low: Key,
+    pub high: Key,
+    pub low_closed: bool,
+    pub high_closed: bool,
 }
 
 impl Command {
+    // A square bracket closes its end, a round one leaves it open.
     pub(crate) fn of(kind: u8, which: u8, said: Said) -> Command {
-        match kind {
-            b'l' => Command::Lend(Lending::of(which, said)),
-            b'w' => Command::Words(Poking::of(which, said)),
-            b'c' => Command::Change(Change::of(which, said)),
-            b'a' => Command::Ask(Question::of(which, said)),
-            b'b' => Command::Card(Card::of(which, said)),
-            _ => Command::Help,
+        Command {
+            kind,
+            which,
+            first: said[0],
+            second: said[1],
+            third: said[2],
+            fourth: said[3],
+            fifth: said[4],
+            low: Key(said[said::LOW]),
+            high: Key(said[said::HIGH]),
+            low_closed: said[said::LOW_BRACKET] == b'[' as u32,
+            high_closed: said[said::HIGH_BRACKET] == b']' as u32,
         }
+    }
+
+    // What no row of the table says: that there is no word, or only a remark; and that something is wrong, by its number.
+    pub fn nothing() -> Command {
+        Command::of(b' ', b' ', [0; 9])
+    }
+
+    pub(crate) fn wrong(fault: Fault) -> Command {
+        Command::of(b'?', b' ', [fault.0, 0, 0, 0, 0, 0, 0, 0, 0])
+    }
+
+    // The command with which a desk starts.
+    pub fn empty() -> Command {
+        Command::of(b'c', b'e', [0; 9])
+    }
+
+    // The band of a number, a scope and a stretch.
+    pub fn band(self) -> Band {
+        let low = self.low;
+        let high = self.high;
+        Band {
+            number: self.first,
+            scope: self.second,
+            low,
+            high,
+            low_closed: self.low_closed,
+            high_closed: self.high_closed,
+        }
+    }
+
+    // The key, of a command that takes one.
+    pub fn key(self) -> Key {
+        Key(self.first)
+    }
+
+    // What is wrong, of a command that says that something is.
+    pub fn fault(self) -> Fault {
+        Fault(self.first)
     }
 }

@@ -1,49 +1,43 @@
 // What can be wrong with a line.
 
-pub enum Fault {
-    None,
-    LineTooLong,
-    NoSuchCommand,
-    WordMissing,
-    NotANumber,
-    NumberAbove,
-    NotASlice,
-    NotAKey,
-    NoSuchKey,
-    NotAStretch,
-    TooManyWords,
-    NoSuchMemory,
-    NoSuchWord,
-    CardFull,
-}
+// By the number of its words in `desk_answers`.
+pub struct Fault(pub u32);
 
 impl Fault {
-    // The number of its words in `desk_answers`.
-    pub fn number(self) -> u32 {
-        match self {
-            Fault::None => 0,
-            Fault::LineTooLong => 1,
-            Fault::NoSuchCommand => 2,
-            Fault::WordMissing => 3,
-            Fault::NotANumber => 4,
-            Fault::NumberAbove => 5,
-            Fault::NotASlice => 6,
-            Fault::NotAKey => 7,
-            Fault::NoSuchKey => 8,
-            Fault::NotAStretch => 9,
-            Fault::TooManyWords => 10,
-            Fault::NoSuchMemory => 11,
-            Fault::NoSuchWord => 12,
-            Fault::CardFull => 13,
-        }
-    }
+    pub const NONE: Fault = Fault(0);
+
+    pub const LINE_TOO_LONG: Fault = Fault(1);
+
+    pub const NO_SUCH_COMMAND: Fault = Fault(2);
+
+    pub const WORD_MISSING: Fault = Fault(3);
+
+    pub const NOT_A_NUMBER: Fault = Fault(4);
+
+    pub const NUMBER_ABOVE: Fault = Fault(5);
+
+    pub const NOT_A_SLICE: Fault = Fault(6);
+
+    pub const NOT_A_KEY: Fault = Fault(7);
+
+    pub const NO_SUCH_KEY: Fault = Fault(8);
+
+    pub const NOT_A_STRETCH: Fault = Fault(9);
+
+    pub const TOO_MANY_WORDS: Fault = Fault(10);
+
+    pub const NO_SUCH_MEMORY: Fault = Fault(11);
+
+    pub const NO_SUCH_WORD: Fault = Fault(12);
+
+    pub const CARD_FULL: Fault = Fault(13);
 
     pub(crate) fn is_none(self) -> bool {
-        if let Fault::None = self { true } else { false }
+        self.0 == 0
     }
 
     // This one, or else what is wrong further right.
     pub(crate) fn or(self, right: Fault) -> Fault {
-        if let Fault::None = self { right } else { self }
+        if self.0 == 0 { right } else { self }
     }
 }

@@ -12,11 +12,11 @@ const HIGHEST_WORD: u32 = 65535;
 
 fn made(machine: u32, sensor: u32, reading: u32) -> Read {
     if HIGHEST_WORD < reading {
-        return numbers::wrong(Fault::NoSuchKey);
+        return numbers::wrong(Fault::NO_SUCH_KEY);
     }
     match Key::of(machine, sensor, Reading(reading as u16)) {
         Made::At(key) => numbers::right(key.0),
-        Made::NoSuchKey => numbers::wrong(Fault::NoSuchKey),
+        Made::NoSuchKey => numbers::wrong(Fault::NO_SUCH_KEY),
     }
 }
 
@@ -28,7 +28,7 @@ fn of_parts(machine: &[u8], sensor: &[u8], reading: &[u8]) -> Read {
     if machine_read.is_number() & sensor_read.is_number() & reading_read.is_number() {
         made(machine_read.number, sensor_read.number, reading_read.number)
     } else {
-        numbers::wrong(Fault::NotAKey)
+        numbers::wrong(Fault::NOT_A_KEY)
     }
 }
 
@@ -37,7 +37,7 @@ fn of_number(word: &[u8]) -> Read {
     if read.is_number() {
         read
     } else {
-        numbers::wrong(Fault::NotAKey)
+        numbers::wrong(Fault::NOT_A_KEY)
     }
 }
 
@@ -49,7 +49,7 @@ pub(crate) fn key_of(word: &[u8]) -> Read {
     let rest = words::after(word, colon);
     let second_colon = words::place_of(b':', rest);
     if second_colon == rest.len() {
-        return numbers::wrong(Fault::NotAKey);
+        return numbers::wrong(Fault::NOT_A_KEY);
     }
     of_parts(
         words::before(word, colon),

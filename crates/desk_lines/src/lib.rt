@@ -10,15 +10,10 @@ mod stretches;
 mod table;
 mod words;
 
-pub use commands::Card;
-pub use commands::Change;
 pub use commands::Command;
-pub use commands::Lending;
-pub use commands::Poking;
-pub use commands::Question;
-pub use commands::Slice;
 pub use faults::Fault;
 pub use reading::LINE_STORE;
 pub use reading::read_line;
+pub use slices::Slice;
 pub use table::ROW_COUNT;
 pub use table::name_byte;

@@ -16,18 +16,13 @@ pub struct Read {
 impl Read {
     // Whether the word is a number, be it too high.
     pub(crate) fn is_number(self) -> bool {
-        let fault = self.fault;
-        if let Fault::NotANumber = fault {
-            false
-        } else {
-            true
-        }
+        self.fault.0 != Fault::NOT_A_NUMBER.0
     }
 }
 
 pub(crate) fn right(number: u32) -> Read {
     Read {
-        fault: Fault::None,
+        fault: Fault::NONE,
         number,
     }
 }
@@ -58,7 +53,7 @@ fn with_digit(value: u64, digit: u8) -> u64 {
 fn read_as(value: u64) -> Read {
     if HIGHEST < value {
         return Read {
-            fault: Fault::NumberAbove,
+            fault: Fault::NUMBER_ABOVE,
             number: HIGHEST as u32,
         };
     }
@@ -68,14 +63,14 @@ fn read_as(value: u64) -> Read {
 // Reads all of a word, so that a wrong byte is told even after too many digits.
 pub(crate) fn number_of(word: &[u8]) -> Read {
     if word.len() == 0 {
-        return wrong(Fault::NotANumber);
+        return wrong(Fault::NOT_A_NUMBER);
     }
     let mut value: u64 = 0;
     let mut at = 0;
     while at < word.len() {
         let digit = digit_of(word[at]);
         if digit == NO_DIGIT {
-            return wrong(Fault::NotANumber);
+            return wrong(Fault::NOT_A_NUMBER);
         }
         value = with_digit(value, digit);
         at += 1;

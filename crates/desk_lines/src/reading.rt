@@ -28,7 +28,7 @@ fn read_number(letter: u8, word: &[u8]) -> Read {
 
 fn read_word(letter: u8, word: &[u8], place: usize, said: &mut Said) -> Fault {
     if word.len() == 0 {
-        return Fault::WordMissing;
+        return Fault::WORD_MISSING;
     }
     if letter == b'[' {
         return stretches::read_stretch(word, said);
@@ -44,9 +44,9 @@ fn read_word(letter: u8, word: &[u8], place: usize, said: &mut Said) -> Fault {
 fn words_past(line: &[u8], count: usize) -> Fault {
     let past = words::word(line, count);
     if past.len() == 0 {
-        Fault::None
+        Fault::NONE
     } else {
-        Fault::TooManyWords
+        Fault::TOO_MANY_WORDS
     }
 }
 
@@ -54,7 +54,7 @@ fn words_past(line: &[u8], count: usize) -> Fault {
 fn read_words(row: u32, behind: &[u8], said: &mut Said) -> Fault {
     let mut place = 0;
     while place < MOST_WORDS {
-        let letter = table::word_letter(row, place as u32);
+        let letter = table::letter(row, place as u32);
         if letter == b' ' {
             return words_past(behind, place);
         }
@@ -68,13 +68,16 @@ fn read_words(row: u32, behind: &[u8], said: &mut Said) -> Fault {
 }
 
 fn read_row(row: u32, behind: &[u8]) -> Command {
-    let mut said = [0; 10];
+    let mut said = [0; 9];
     let fault = read_words(row, behind, &mut said);
-    if let Fault::None = fault {
-        Command::of(table::kind(row), table::which(row), said)
-    } else {
-        Command::Wrong(fault)
+    if !fault.is_none() {
+        return Command::wrong(fault);
     }
+    Command::of(
+        table::letter(row, table::KIND),
+        table::letter(row, table::WHICH),
+        said,
+    )
 }
 
 // Reads what stands behind the command's name, or behind both its names.
@@ -84,7 +87,7 @@ fn read_named(row: u32, line: &[u8], second: &[u8]) -> Command {
         return read_row(row, behind);
     }
     if second.len() == 0 {
-        return Command::Wrong(Fault::WordMissing);
+        return Command::wrong(Fault::WORD_MISSING);
     }
     read_row(row, words::behind_first(behind))
 }
@@ -92,15 +95,15 @@ fn read_named(row: u32, line: &[u8], second: &[u8]) -> Command {
 fn read(line: &[u8]) -> Command {
     let first = words::word(line, 0);
     if first.len() == 0 {
-        return Command::Nothing;
+        return Command::nothing();
     }
     if first[0] == b'#' {
-        return Command::Nothing;
+        return Command::nothing();
     }
     let second = words::word(line, 1);
     let row = table::row_meant(first, second);
     if row == ROW_COUNT {
-        return Command::Wrong(Fault::NoSuchCommand);
+        return Command::wrong(Fault::NO_SUCH_COMMAND);
     }
     read_named(row, line, second)
 }
@@ -122,11 +125,11 @@ fn length_without_return(line: &[u8], length: usize) -> usize {
 // long, carriage return or not.
 pub fn read_line(bytes: &[u8], length: usize) -> Command {
     if LINE_STORE < length {
-        return Command::Wrong(Fault::LineTooLong);
+        return Command::wrong(Fault::LINE_TOO_LONG);
     }
     let shorn = length_without_return(bytes, length);
     if LONGEST_LINE < shorn {
-        return Command::Wrong(Fault::LineTooLong);
+        return Command::wrong(Fault::LINE_TOO_LONG);
     }
     read(words::before(bytes, shorn))
 }

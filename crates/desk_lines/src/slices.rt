@@ -4,16 +4,27 @@ use crate::numbers;
 use crate::numbers::Read;
 use crate::words;
 
+// One of the three slices of the memory, by its number.
+pub struct Slice(pub u32);
+
+impl Slice {
+    pub const BANDS: Slice = Slice(0);
+
+    pub const NODES: Slice = Slice(1);
+
+    pub const MARKS: Slice = Slice(2);
+}
+
 // The number of the slice that a word names.
 pub(crate) fn slice_of(word: &[u8]) -> Read {
     if words::is(word, b"bands") {
-        return numbers::right(0);
+        return numbers::right(Slice::BANDS.0);
     }
     if words::is(word, b"nodes") {
-        return numbers::right(1);
+        return numbers::right(Slice::NODES.0);
     }
     if words::is(word, b"marks") {
-        return numbers::right(2);
+        return numbers::right(Slice::MARKS.0);
     }
-    numbers::wrong(Fault::NotASlice)
+    numbers::wrong(Fault::NOT_A_SLICE)
 }

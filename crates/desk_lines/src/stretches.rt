@@ -9,7 +9,7 @@ use crate::words;
 fn read_ends(ends: &[u8], said: &mut Said) -> Fault {
     let comma = words::place_of(b',', ends);
     if comma == ends.len() {
-        return Fault::NotAStretch;
+        return Fault::NOT_A_STRETCH;
     }
     let low = keys::key_of(words::before(ends, comma));
     let high = keys::key_of(words::after(ends, comma));
@@ -30,13 +30,13 @@ fn wide(byte: u8) -> u32 {
 
 pub(crate) fn read_stretch(word: &[u8], said: &mut Said) -> Fault {
     if word.len() < 2 {
-        return Fault::NotAStretch;
+        return Fault::NOT_A_STRETCH;
     }
     let last = word.len() - 1;
     let low_bracket = word[0];
     let high_bracket = word[last];
     if !are_brackets(low_bracket, high_bracket) {
-        return Fault::NotAStretch;
+        return Fault::NOT_A_STRETCH;
     }
     said[said::LOW_BRACKET] = wide(low_bracket);
     said[said::HIGH_BRACKET] = wide(high_bracket);

@@ -14,11 +14,11 @@ const SECOND: u32 = 1;
 
 const LETTERS: u32 = 2;
 
-// The letters: one for each word that the command takes (n a number, k a key, s a slice, [ a stretch), and two for what it asks, its kind and
-// which of that kind. `commands.rt` makes the command of these two.
-const KIND: u32 = 6;
+// The letters: one for each word that the command takes (n a number, k a key, s a slice, [ a stretch), and two for what it asks: its kind (l lends
+// words, w takes them as words, c is a change and a a question of the box, b is for the bench card) and which of that kind.
+pub(crate) const KIND: u32 = 6;
 
-const WHICH: u32 = 7;
+pub(crate) const WHICH: u32 = 7;
 
 const ROWS: [u8; PART_WIDTH * PARTS * ROW_COUNT as usize] = *b"\
     memory          nn    lm\
@@ -54,17 +54,9 @@ pub fn name_byte(row: u32, at: u32) -> u8 {
     byte(row, NAME, at)
 }
 
-// The letter of a word that the row's command takes, by its place behind the name; a blank where it takes none.
-pub(crate) fn word_letter(row: u32, place: u32) -> u8 {
+// A letter of the row: for a word its place behind the name, a blank where the command takes none.
+pub(crate) fn letter(row: u32, place: u32) -> u8 {
     byte(row, LETTERS, place)
-}
-
-pub(crate) fn kind(row: u32) -> u8 {
-    byte(row, LETTERS, KIND)
-}
-
-pub(crate) fn which(row: u32) -> u8 {
-    byte(row, LETTERS, WHICH)
 }
 
 // Whether the row's command is said in two words.

@@ -9,16 +9,16 @@ abbrev Inv-loop : tie.InvT-loop
 Inv-loop row behind said₀ place₀ said place = Unit {0}
 
 abbrev μ-loop : tie.MeasureT-loop
-μ-loop row behind said₀ place₀ said place = 6 - place
+μ-loop row behind said₀ place₀ said place = 5 - place
 
 loop-holds : tie.Need-loop-holds Inv-loop μ-loop
 loop-holds c = search needs
 
-cast-word-letter : tie.Need-cast-word-letter Inv-loop μ-loop
-cast-word-letter c = search needs
+cast-letter : tie.Need-cast-letter Inv-loop μ-loop
+cast-letter c = search needs
 
-word-letter-requires : tie.Need-word-letter-requires Inv-loop μ-loop
-word-letter-requires c κs = search needs
+letter-requires : tie.Need-letter-requires Inv-loop μ-loop
+letter-requires c κs = search needs
 
 words-past-requires : tie.Need-words-past-requires Inv-loop μ-loop
 words-past-requires c κs = search needs
@@ -60,8 +60,8 @@ read-words-spec =
     Inv-loop
     μ-loop
     loop-holds
-    cast-word-letter
-    word-letter-requires
+    cast-letter
+    letter-requires
     words-past-requires
     returns
     word-requires
