@@ -19,8 +19,8 @@ use Rattle.store.specs.ChangeIn.{changeIn}
 use Rattle.store.proofs.SaidStands.{said-stands}
 use Rattle.store.proofs.ChangeIn.{change-leaves-so, change-leaves}
 use Rattle.asking.specs.StabCall.{stabIn}
-use Rattle.changing.specs.InsertCall.{insertRefusalIn, insertIn}
-use Rattle.changing.specs.RemoveCall.{removeRefusalIn, removeIn}
+use Rattle.inserting.specs.InsertCall.{insertRefusalIn, insertIn}
+use Rattle.removing.specs.RemoveCall.{removeRefusalIn, removeIn}
 use Rattle.asking.proofs.OnSound.{stab-on-sound}
 use Rattle.demands.proofs.ChangesOnly.{ChangesOnly, insert-changes-only, remove-changes-its-scope}
 

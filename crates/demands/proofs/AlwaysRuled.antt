@@ -17,11 +17,13 @@ use Rattle.store.specs.Sound.{sound}
 use Rattle.store.proofs.Sound.{sound-means}
 use Rattle.store.proofs.SaidStands.{sizes-of-sound}
 use Rattle.store.proofs.ChangeIn.{change-says}
-use Rattle.changing.specs.EmptyCall.{emptyIn}
-use Rattle.changing.specs.InsertCall.{insertRefusalIn, insertIn}
-use Rattle.changing.specs.RemoveCall.{removeRefusalIn, removeIn}
-use Rattle.changing.proofs.Accepted.{empty-fitting, insert-fitting, remove-fitting}
-use Rattle.changing.proofs.EmptyExact.{empty-makes}
+use Rattle.emptying.specs.EmptyCall.{emptyIn}
+use Rattle.inserting.specs.InsertCall.{insertRefusalIn, insertIn}
+use Rattle.removing.specs.RemoveCall.{removeRefusalIn, removeIn}
+use Rattle.emptying.proofs.Accepted.{empty-fitting}
+use Rattle.inserting.proofs.Accepted.{insert-fitting}
+use Rattle.removing.proofs.Accepted.{remove-fitting}
+use Rattle.emptying.proofs.EmptyExact.{empty-makes}
 use Rattle.demands.specs.Calls.{afterCall, afterCalls}
 use Rattle.demands.proofs.KeepsSound.{keeps-sound, keeps-lengths}
 use Rattle.demands.proofs.AlwaysSound.{always-sound}

@@ -19,11 +19,11 @@ use Rattle.store.specs.Memory.{Memory, lengthsIn}
 use Rattle.store.specs.SaidProfile.{saidProfile}
 use Rattle.store.specs.Sound.{sound}
 use Rattle.store.proofs.SaidStands.{sizes-of-sound, said-stands}
-use Rattle.changing.specs.EmptyCall.{emptyIn}
+use Rattle.emptying.specs.EmptyCall.{emptyIn}
 use Rattle.asking.specs.BandCall.{bandIn}
 use Rattle.asking.specs.StabCall.{stabIn}
 use Rattle.demands.specs.Calls.{afterCall, afterCalls}
-use Rattle.changing.proofs.EmptyExact.{empty-makes}
+use Rattle.emptying.proofs.EmptyExact.{empty-makes}
 use Rattle.asking.proofs.StabExact.{ExactStab, stab-exact}
 use Rattle.asking.proofs.BandExact.{band-exact, band-refused-9}
 use Rattle.asking.proofs.MarkedByRule.{MarkedByRule, marked-by-rule}

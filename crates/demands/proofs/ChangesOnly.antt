@@ -14,9 +14,10 @@ use Rattle.store.specs.Memory.{Memory}
 use Rattle.store.specs.SaidProfile.{saidProfile}
 use Rattle.store.specs.Sound.{sound}
 use Rattle.store.proofs.ChangeIn.{Fitting}
-use Rattle.changing.specs.InsertCall.{insertRefusalIn}
-use Rattle.changing.specs.RemoveCall.{removeRefusalIn}
-use Rattle.changing.proofs.Accepted.{insert-fitting, insert-was-sound, remove-fitting, remove-unrefused, remove-was-sound}
+use Rattle.inserting.specs.InsertCall.{insertRefusalIn}
+use Rattle.removing.specs.RemoveCall.{removeRefusalIn}
+use Rattle.inserting.proofs.Accepted.{insert-fitting, insert-was-sound}
+use Rattle.removing.proofs.Accepted.{remove-fitting, remove-unrefused, remove-was-sound}
 
 -- a change that is accepted only on sound memory, and then only bands that pass the test have come or gone
 pub record ChangesOnly (P : Band → Type 0) (m : Memory) (refusal : ℕ) (after : Profile) : Type 0 where

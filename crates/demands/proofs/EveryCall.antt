@@ -11,10 +11,12 @@ use Rattle.store.specs.Memory.{Memory, lengthsIn}
 use Rattle.store.specs.SaidProfile.{saidProfile}
 use Rattle.store.specs.ChangeIn.{changeIn}
 use Rattle.store.proofs.ChangeIn.{Fitting}
-use Rattle.changing.specs.EmptyCall.{emptyIn}
-use Rattle.changing.specs.InsertCall.{insertRefusalIn, insertIn}
-use Rattle.changing.specs.RemoveCall.{removeRefusalIn, removeIn}
-use Rattle.changing.proofs.Accepted.{empty-fitting, insert-fitting, remove-fitting}
+use Rattle.emptying.specs.EmptyCall.{emptyIn}
+use Rattle.inserting.specs.InsertCall.{insertRefusalIn, insertIn}
+use Rattle.removing.specs.RemoveCall.{removeRefusalIn, removeIn}
+use Rattle.emptying.proofs.Accepted.{empty-fitting}
+use Rattle.inserting.proofs.Accepted.{insert-fitting}
+use Rattle.removing.proofs.Accepted.{remove-fitting}
 use Rattle.demands.specs.Calls.{afterCall}
 use Rattle.demands.specs.Lines.{refusalOf}
 

@@ -24,9 +24,10 @@ use Rattle.store.proofs.SaidStands.{said-stands}
 use Rattle.store.proofs.ChangeIn.{Fitting, change-leaves-so, change-leaves}
 use Rattle.asking.specs.NodeCall.{nodeIn}
 use Rattle.asking.proofs.OnSound.{node-on-sound}
-use Rattle.changing.specs.InsertCall.{insertRefusalIn, insertIn}
-use Rattle.changing.specs.RemoveCall.{removeRefusalIn, removeIn}
-use Rattle.changing.proofs.Accepted.{insert-fitting, insert-was-sound, insert-leaves, remove-fitting, remove-was-sound}
+use Rattle.inserting.specs.InsertCall.{insertRefusalIn, insertIn}
+use Rattle.removing.specs.RemoveCall.{removeRefusalIn, removeIn}
+use Rattle.inserting.proofs.Accepted.{insert-fitting, insert-was-sound, insert-leaves}
+use Rattle.removing.proofs.Accepted.{remove-fitting, remove-was-sound}
 
 -- ---- a node that stands before and after
 

@@ -21,11 +21,12 @@ use Rattle.store.specs.ChangeIn.{changeIn}
 use Rattle.store.proofs.SaidStands.{sizes-of-sound, said-stands}
 use Rattle.store.proofs.ChangeIn.{Fitting, change-leaves-so, change-leaves}
 use Rattle.asking.specs.BandCall.{bandIn}
-use Rattle.changing.specs.InsertCall.{insertRefusalIn, insertIn}
-use Rattle.changing.specs.RemoveCall.{removeRefusalIn, removeIn}
+use Rattle.inserting.specs.InsertCall.{insertRefusalIn, insertIn}
+use Rattle.removing.specs.RemoveCall.{removeRefusalIn, removeIn}
 use Rattle.asking.proofs.OnSound.{band-on-sound}
 use Rattle.asking.proofs.BandExact.{band-exact}
-use Rattle.changing.proofs.Accepted.{insert-fitting, remove-fitting, remove-unrefused}
+use Rattle.inserting.proofs.Accepted.{insert-fitting}
+use Rattle.removing.proofs.Accepted.{remove-fitting, remove-unrefused}
 use Rattle.demands.proofs.ChangesOnly.{ChangesOnly, insert-changes-only, remove-changes-its-number}
 
 -- ---- no other band changes

@@ -27,8 +27,8 @@ use Rattle.search.specs.PlaceOf.{placeOf}
 use Rattle.asking.specs.EdgeCall.{edgeIn}
 use Rattle.asking.specs.NodeCall.{nodeRefusalIn, nodeAt, nodeIn}
 use Rattle.asking.proofs.OnSound.{edge-on-sound, node-on-sound}
-use Rattle.changing.specs.InsertCall.{insertRefusalIn, insertIn}
-use Rattle.changing.specs.RemoveCall.{removeRefusalIn, removeIn}
+use Rattle.inserting.specs.InsertCall.{insertRefusalIn, insertIn}
+use Rattle.removing.specs.RemoveCall.{removeRefusalIn, removeIn}
 use Rattle.demands.proofs.ChangesOnly.{ChangesOnly, insert-changes-only, remove-changes-its-number}
 
 -- ---- what is kept from one memory to another

@@ -20,11 +20,11 @@ use Rattle.store.specs.Sound.{sound}
 use Rattle.store.specs.ChangeIn.{changeIn}
 use Rattle.store.proofs.RightSizes.{right-lengths}
 use Rattle.store.proofs.SaidStands.{sizes-of-sound}
-use Rattle.changing.specs.EmptyCall.{emptyIn}
-use Rattle.changing.specs.InsertCall.{insertRefusalIn, insertIn}
-use Rattle.changing.specs.RemoveCall.{removeRefusalIn, removeIn}
-use Rattle.changing.proofs.EmptyExact.{empty-makes}
-use Rattle.changing.proofs.Accepted.{insert-leaves}
+use Rattle.emptying.specs.EmptyCall.{emptyIn}
+use Rattle.inserting.specs.InsertCall.{insertRefusalIn, insertIn}
+use Rattle.removing.specs.RemoveCall.{removeRefusalIn, removeIn}
+use Rattle.emptying.proofs.EmptyExact.{empty-makes}
+use Rattle.inserting.proofs.Accepted.{insert-leaves}
 
 -- the room of sound memory is in range
 in-range : (w : Memory) → sound w ≡ true → roomInRange (roomIn w) ≡ true

@@ -13,9 +13,9 @@ use Rattle.rules.proofs.Lists.{In}
 use Rattle.rules.proofs.FirstLine.{GivenExactly, refusal-exactly, Numbered, refusal-among, Ordered, LowestExactly, lowest-exactly}
 use Rattle.store.specs.Memory.{Memory}
 use Rattle.store.specs.ChangeIn.{changeIn}
-use Rattle.changing.specs.EmptyCall.{emptyIn}
-use Rattle.changing.specs.InsertCall.{insertIn, insertRefusalIn}
-use Rattle.changing.specs.RemoveCall.{removeIn, removeRefusalIn}
+use Rattle.emptying.specs.EmptyCall.{emptyIn}
+use Rattle.inserting.specs.InsertCall.{insertIn, insertRefusalIn}
+use Rattle.removing.specs.RemoveCall.{removeIn, removeRefusalIn}
 use Rattle.asking.specs.StabCall.{stabIn}
 use Rattle.asking.specs.BandCall.{bandIn, bandRefusalIn}
 use Rattle.asking.specs.EdgeCall.{edgeIn, edgeRefusalIn}

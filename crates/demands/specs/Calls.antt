@@ -4,9 +4,9 @@
 use mathlib.Core.List.{List, [], _∷_}
 use Rattle.rules.specs.Calls.{Call, emptying, inserting, removing, checking, stabbing, readingBand, readingEdge, readingNode, readingRoom}
 use Rattle.store.specs.Memory.{Memory}
-use Rattle.changing.specs.EmptyCall.{emptyIn}
-use Rattle.changing.specs.InsertCall.{insertIn}
-use Rattle.changing.specs.RemoveCall.{removeIn}
+use Rattle.emptying.specs.EmptyCall.{emptyIn}
+use Rattle.inserting.specs.InsertCall.{insertIn}
+use Rattle.removing.specs.RemoveCall.{removeIn}
 
 -- the memory after a call, accepted or refused
 abbrev pub afterCall : Memory → Call → Memory

@@ -12,9 +12,9 @@ use Rattle.store.specs.Places.{bandField, liveField}
 use Rattle.store.specs.SaidProfile.{saidProfile}
 use Rattle.store.specs.Sound.{sound}
 use Rattle.search.specs.PlaceOf.{placeOf}
-use Rattle.changing.specs.EmptyCall.{emptyIn}
-use Rattle.changing.specs.InsertCall.{insertIn}
-use Rattle.changing.specs.RemoveCall.{removeIn}
+use Rattle.emptying.specs.EmptyCall.{emptyIn}
+use Rattle.inserting.specs.InsertCall.{insertIn}
+use Rattle.removing.specs.RemoveCall.{removeIn}
 use Rattle.asking.specs.StabCall.{stabIn}
 use Rattle.asking.specs.BandCall.{bandIn}
 use Rattle.asking.specs.EdgeCall.{hasLane, edgeIn}

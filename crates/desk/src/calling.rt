@@ -10,7 +10,7 @@ pub(crate) fn change(
 ) -> Told {
     let which = command.which;
     match which {
-        b'i' => desk_answers::change_answer(changing::insert(
+        b'i' => desk_answers::change_answer(inserting::insert(
             bands,
             nodes,
             marks,
@@ -18,14 +18,14 @@ pub(crate) fn change(
             command.fourth,
             command.fifth,
         )),
-        b'r' => desk_answers::change_answer(changing::remove(
+        b'r' => desk_answers::change_answer(removing::remove(
             bands,
             nodes,
             marks,
             command.first,
             command.second,
         )),
-        _ => desk_answers::change_answer(changing::empty(bands, nodes, marks)),
+        _ => desk_answers::change_answer(emptying::empty(bands, nodes, marks)),
     }
 }
 

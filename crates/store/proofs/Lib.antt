@@ -16,6 +16,8 @@
 --   LaidSound      what is laid is sound and says the profile: each that stands and fits has such a memory
 --   SaidStands     the profile that sound memory says stands, and fits its room
 --   ChangeIn       what is so of every change of memory
+--   SoundFirst     the line of soundness, by which a change of sound memory is judged first
+--   ToldBack       what the outcome of a call that changes says tells it back
 --   LentWords      what a call that is lent memory is given, as promises speak of it
 --   MemoryExample  the example of docs/MEMORY.md
 --   LinkMarks      the marks of a link's slot are those of the edge there
@@ -44,6 +46,8 @@ pub mod Sound
 pub mod LaidSound
 pub mod SaidStands
 pub mod ChangeIn
+pub mod SoundFirst
+pub mod ToldBack
 pub mod LentWords
 pub mod LinkMarks
 pub mod NextInLane

@@ -14,3 +14,4 @@ pub mod LaidMarks
 pub mod LaidMemory
 pub mod Sound
 pub mod ChangeIn
+pub mod Came

@@ -1,0 +1,44 @@
+-- An insert is a change that owes what every change does: it is accepted only where memory was sound and the profile with the band may soundly stand
+-- in the room.
+-- Assumes nothing.
+use Prim.Native.Nat.{ℕ}
+use mathlib.Core.Path.{_≡_, subst}
+use mathlib.Core.Bool.{true}
+use Rattle.rules.specs.HallLine.{Band}
+use Rattle.rules.specs.Changes.{inserted}
+use Rattle.rules.specs.BoxSaysNo.{insertOutcome}
+use Rattle.rules.specs.SoundMemory.{soundIn}
+use Rattle.rules.proofs.BoxSaysNo.{InsertAccepted, insert-accepted, accepted-changes}
+use Rattle.rules.proofs.Theory.StandingKept.{insert-keeps-sound}
+use Rattle.store.specs.Sizes.{sizesRight}
+use Rattle.store.specs.Memory.{Memory, lengthsIn, roomIn}
+use Rattle.store.specs.SaidProfile.{saidProfile}
+use Rattle.store.specs.Sound.{sound}
+use Rattle.store.proofs.Sound.{sound-means, unsound-fails}
+use Rattle.store.proofs.SaidStands.{sizes-of-sound}
+use Rattle.store.specs.ChangeIn.{changeIn}
+use Rattle.store.proofs.ChangeIn.{Fitting, LeavesSound, change-leaves}
+use Rattle.inserting.specs.InsertCall.{insertRefusalIn, insertIn}
+
+module _ (m : Memory) (b : Band) (lo hi : ℕ) where
+  -- where it is accepted nothing refuses it
+  pub insert-unrefused : insertRefusalIn m b lo hi ≡ 0 → InsertAccepted (sound m ≡ true) (roomIn m) (saidProfile m) b lo hi
+  unfolding insertRefusalIn
+  insert-unrefused = insert-accepted (sizesRight (lengthsIn m)) (sound m) (unsound-fails m) (roomIn m) (saidProfile m) b lo hi .0
+
+  pub insert-was-sound : insertRefusalIn m b lo hi ≡ 0 → sound m ≡ true
+  insert-was-sound z = insert-unrefused z .judged .memory-right
+
+  pub insert-fitting : Fitting m (insertRefusalIn m b lo hi) (inserted (saidProfile m) b lo hi)
+  unfolding insertRefusalIn insertOutcome
+  insert-fitting =
+      let p = saidProfile m in
+      record {
+        sizes = λ z. sizes-of-sound m (insert-was-sound z);
+        fits = λ z. subst (λ q. soundIn (roomIn m) q ≡ true) (accepted-changes (insertRefusalIn m b lo hi) p (inserted p b lo hi) z)
+            (insert-keeps-sound (sizesRight (lengthsIn m)) (sound m) (roomIn m) p b lo hi (sound-means m .fact (insert-was-sound z) .in-room));
+      }
+
+  pub insert-leaves : insertIn m b lo hi .refusal ≡ 0 → LeavesSound m (inserted (saidProfile m) b lo hi) (insertIn m b lo hi .after)
+  unfolding insertIn changeIn
+  insert-leaves z = change-leaves m (insertRefusalIn m b lo hi) (inserted (saidProfile m) b lo hi) insert-fitting z

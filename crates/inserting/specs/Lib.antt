@@ -1,0 +1,2 @@
+-- What an insert answers and what memory it leaves, on every memory and every argument: a `changeIn` of `store`.
+pub mod InsertCall

@@ -1,0 +1,43 @@
+-- A remove is a change that owes what every change does: it is accepted only where memory was sound and the profile without the band may soundly stand
+-- in the room.
+-- Assumes nothing.
+use Prim.Native.Nat.{ℕ}
+use mathlib.Core.Path.{_≡_, subst}
+use mathlib.Core.Bool.{true}
+use Rattle.rules.specs.Changes.{removed}
+use Rattle.rules.specs.BoxSaysNo.{removeOutcome}
+use Rattle.rules.specs.SoundMemory.{soundIn}
+use Rattle.rules.proofs.BoxSaysNo.{RemoveAccepted, remove-accepted, accepted-changes}
+use Rattle.rules.proofs.Theory.StandingKept.{remove-keeps-sound}
+use Rattle.store.specs.Sizes.{sizesRight}
+use Rattle.store.specs.Memory.{Memory, lengthsIn, roomIn}
+use Rattle.store.specs.SaidProfile.{saidProfile}
+use Rattle.store.specs.Sound.{sound}
+use Rattle.store.proofs.Sound.{sound-means, unsound-fails}
+use Rattle.store.proofs.SaidStands.{sizes-of-sound}
+use Rattle.store.specs.ChangeIn.{changeIn}
+use Rattle.store.proofs.ChangeIn.{Fitting, LeavesSound, change-leaves}
+use Rattle.removing.specs.RemoveCall.{removeRefusalIn, removeIn}
+
+module _ (m : Memory) (number scope : ℕ) where
+  pub remove-unrefused : removeRefusalIn m number scope ≡ 0
+      → RemoveAccepted (sound m ≡ true) (roomIn m) (saidProfile m) number scope
+  unfolding removeRefusalIn
+  remove-unrefused = remove-accepted (sizesRight (lengthsIn m)) (sound m) (unsound-fails m) (roomIn m) (saidProfile m) number scope .0
+
+  pub remove-was-sound : removeRefusalIn m number scope ≡ 0 → sound m ≡ true
+  remove-was-sound z = remove-unrefused z .judged .memory-right
+
+  pub remove-fitting : Fitting m (removeRefusalIn m number scope) (removed (saidProfile m) number)
+  unfolding removeRefusalIn removeOutcome
+  remove-fitting =
+      let p = saidProfile m in
+      record {
+        sizes = λ z. sizes-of-sound m (remove-was-sound z);
+        fits = λ z. subst (λ q. soundIn (roomIn m) q ≡ true) (accepted-changes (removeRefusalIn m number scope) p (removed p number) z)
+            (remove-keeps-sound (sizesRight (lengthsIn m)) (sound m) (roomIn m) p number scope (sound-means m .fact (remove-was-sound z) .in-room));
+      }
+
+  pub remove-leaves : removeIn m number scope .refusal ≡ 0 → LeavesSound m (removed (saidProfile m) number) (removeIn m number scope .after)
+  unfolding removeIn changeIn
+  remove-leaves z = change-leaves m (removeRefusalIn m number scope) (removed (saidProfile m) number) remove-fitting z
