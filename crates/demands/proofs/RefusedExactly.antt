@@ -1,6 +1,6 @@
 -- When the box says no: a call answers n exactly when a line of that number applies and none before it in the call's list does, and 0 exactly when
--- none applies; its lines have the table's numbers, and it answers no other. In the lists of document 01 numbers ascend, so that is "the lowest
--- number that applies". (In plain words: InsertRefused, RemoveRefused and EmptyExact, AskingRefused, where those calls are.)
+-- none applies; its lines have the table's numbers, and it answers no other. In the paper's lists numbers ascend, so that is "the lowest number that
+-- applies". (In plain words: Refused in emptying, inserting and removing, AskingRefused in asking.)
 -- Assumes nothing.
 use Prim.Native.Nat.{ℕ}
 use mathlib.Core.Path.{_≡_, refl, subst, sym}

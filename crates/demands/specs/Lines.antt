@@ -2,7 +2,7 @@
 -- applies to that memory and those arguments. (The numbers of those lines: `numbersOf` in the rules.)
 -- Assumes nothing.
 use Prim.Native.Nat.{ℕ}
-use mathlib.Core.List.{List, [], _∷_}
+use mathlib.Core.List.{List, []}
 use Rattle.rules.specs.Connectives.{saysYes}
 use Rattle.rules.specs.BoxSaysNo.{TableLine, emptyLines, insertLines, removeLines, stabLines, bandReadLines, edgeReadLines, nodeReadLines, roomReadLines}
 use Rattle.rules.specs.Calls.{Call, emptying, inserting, removing, checking, stabbing, readingBand, readingEdge, readingNode, readingRoom}

@@ -2,6 +2,7 @@
 use desk_answers::Told;
 use desk_lines::Command;
 
+// An insert's fourth and fifth words are its levels; a remove's first and second are number and scope.
 pub(crate) fn change(
     command: Command,
     bands: &mut [u32],
@@ -25,7 +26,8 @@ pub(crate) fn change(
             command.first,
             command.second,
         )),
-        _ => desk_answers::change_answer(emptying::empty(bands, nodes, marks)),
+        b'e' => desk_answers::change_answer(emptying::empty(bands, nodes, marks)),
+        _ => desk_answers::nothing(),
     }
 }
 

@@ -34,6 +34,7 @@ pub(crate) fn do_card(desk: Desk, command: Command, records: &mut [u32]) -> Done
     match which {
         b'a' => add(desk, command.band(), records),
         b's' => desk.told(scan(desk.card_end, command.key(), records)),
-        _ => with_card(desk, 0),
+        b'c' => with_card(desk, 0),
+        _ => desk.told(desk_answers::nothing()),
     }
 }

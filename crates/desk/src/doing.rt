@@ -15,11 +15,11 @@ use desk_answers::Told;
 use desk_lines::Command;
 use desk_lines::Fault;
 
-// On the words that are lent. Any other command changes none, and nothing is told of it here.
+// A command on the words that are lent: of the kinds w, c and a. Any other changes no word, and nothing is told of it here.
 fn on_lent(command: Command, bands: &mut [u32], nodes: &mut [u32], marks: &mut [u32]) -> Told {
     let kind = command.kind;
     match kind {
-        b'w' => poking::poke_all(command, bands, nodes, marks),
+        b'w' => poking::on_slices(command, bands, nodes, marks),
         b'c' => calling::change(command, bands, nodes, marks),
         b'a' => calling::ask(command, bands, nodes, marks),
         _ => desk_answers::nothing(),
@@ -63,7 +63,7 @@ fn lend(mut desk: Desk, command: Command) -> Done {
     }
 }
 
-// On what is the desk's own; of a command on the lent words it is told what was told of it.
+// A command on what is the desk's own: of the kinds ?, h, l and b. Of any other, what was told of it on the lent words is handed on.
 pub(crate) fn on_own(
     desk: Desk,
     command: Command,

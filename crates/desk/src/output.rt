@@ -3,7 +3,6 @@ use crate::state::Desk;
 use crate::state::Done;
 use crate::stores::OUTPUT_START;
 use crate::stores::OWN_BYTES;
-use desk_answers::Told;
 use libc::STDOUT_FILENO;
 
 // More bytes than any answer has.

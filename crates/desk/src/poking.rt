@@ -9,7 +9,7 @@ const TIMES: u64 = 31;
 
 const PRIME: u64 = 4294967291;
 
-// What came of it so far: whether the word that is meant was found, and the word or the sum.
+// What came of it so far: whether the word that is meant was found (yes where none is meant), and the word or the sum.
 pub struct Poked {
     pub found: bool,
     pub number: u32,
@@ -61,7 +61,7 @@ fn sum_on(sum: u32, words: &[u32]) -> u32 {
     so_far
 }
 
-// A word of the slice that is meant, poked or peeked at.
+// A word of the slice that is meant, poked or peeked at: the line's second word is the index, the third what is poked.
 fn touch(command: Command, words: &mut [u32]) -> Poked {
     if command.which == b'o' {
         poke(words, command.second, command.third)
@@ -71,7 +71,7 @@ fn touch(command: Command, words: &mut [u32]) -> Poked {
 }
 
 // On one slice, after what came of those before it.
-fn poke_slice(command: Command, slice: Slice, before: Poked, words: &mut [u32]) -> Poked {
+fn on_slice(command: Command, slice: Slice, before: Poked, words: &mut [u32]) -> Poked {
     let which = command.which;
     match which {
         b'f' => {
@@ -95,7 +95,7 @@ fn poke_slice(command: Command, slice: Slice, before: Poked, words: &mut [u32]) 
     }
 }
 
-fn poked_answer(which: u8, poked: Poked) -> Told {
+fn answer_of(which: u8, poked: Poked) -> Told {
     if !poked.found {
         return desk_answers::fault_answer(Fault::NO_SUCH_WORD);
     }
@@ -105,7 +105,7 @@ fn poked_answer(which: u8, poked: Poked) -> Told {
     }
 }
 
-pub(crate) fn poke_all(
+pub(crate) fn on_slices(
     command: Command,
     bands: &mut [u32],
     nodes: &mut [u32],
@@ -115,8 +115,8 @@ pub(crate) fn poke_all(
         found: false,
         number: 0,
     };
-    let after_bands = poke_slice(command, Slice::BANDS, none, bands);
-    let after_nodes = poke_slice(command, Slice::NODES, after_bands, nodes);
-    let after_marks = poke_slice(command, Slice::MARKS, after_nodes, marks);
-    poked_answer(command.which, after_marks)
+    let after_bands = on_slice(command, Slice::BANDS, none, bands);
+    let after_nodes = on_slice(command, Slice::NODES, after_bands, nodes);
+    let after_marks = on_slice(command, Slice::MARKS, after_nodes, marks);
+    answer_of(command.which, after_marks)
 }

@@ -1,4 +1,4 @@
-// What the desk knows between bytes.
+// What the desk knows between turns.
 use crate::lending;
 use crate::lending::Lent;
 use crate::stores::INPUT_START;
@@ -42,12 +42,12 @@ impl Desk {
         }
     }
 
-    // How much is kept of the line that is being read.
+    // How long the line that is being read is so far; one that has ended is done with.
     pub(crate) fn kept(self) -> usize {
         if self.line_ended { 0 } else { self.line_length }
     }
 
-    // Where nothing of the desk has changed.
+    // The desk as it is now, with what is told.
     pub(crate) fn told(self, told: Told) -> Done {
         Done { desk: self, told }
     }

@@ -1,6 +1,7 @@
 // What a line asks of the desk.
 use crate::faults::Fault;
 use crate::said;
+use crate::said::SAID_COUNT;
 use crate::said::Said;
 use hall::Band;
 use hall::Key;
@@ -9,7 +10,8 @@ pub struct Command {
     // By the table's letters: its kind, and which of that kind.
     pub kind: u8,
     pub which: u8,
-    // What its words say, by their place behind the name: a number, a key or a slice.
+    // What its words say, by their place behind the name: a number, a key or a slice; 0 at the place of a stretch and where there is no word. Of a
+    // line that is wrong the first is the fault's number.
     pub first: u32,
     pub second: u32,
     pub third: u32,
@@ -40,18 +42,19 @@ impl Command {
         }
     }
 
-    // What no row of the table says: that there is no word, or only a remark; and that something is wrong, by its number.
+    // No row of the table: nothing is to be done, since a line has no word or only a remark, or none has ended.
     pub fn nothing() -> Command {
-        Command::of(b' ', b' ', [0; 9])
+        Command::of(b' ', b' ', [0; SAID_COUNT])
     }
 
+    // No row of the table: something is wrong with the line.
     pub(crate) fn wrong(fault: Fault) -> Command {
         Command::of(b'?', b' ', [fault.0, 0, 0, 0, 0, 0, 0, 0, 0])
     }
 
     // The command with which a desk starts.
     pub fn empty() -> Command {
-        Command::of(b'c', b'e', [0; 9])
+        Command::of(b'c', b'e', [0; SAID_COUNT])
     }
 
     // The band of a number, a scope and a stretch.

@@ -33,11 +33,11 @@ impl Fault {
     pub const CARD_FULL: Fault = Fault(13);
 
     pub(crate) fn is_none(self) -> bool {
-        self.0 == 0
+        self.0 == Fault::NONE.0
     }
 
     // This one, or else what is wrong further right.
     pub(crate) fn or(self, right: Fault) -> Fault {
-        if self.0 == 0 { right } else { self }
+        if self.0 == Fault::NONE.0 { right } else { self }
     }
 }

@@ -5,6 +5,7 @@ use crate::keys;
 use crate::numbers;
 use crate::numbers::Read;
 use crate::said::MOST_WORDS;
+use crate::said::SAID_COUNT;
 use crate::said::Said;
 use crate::slices;
 use crate::stretches;
@@ -68,7 +69,7 @@ fn read_words(row: u32, behind: &[u8], said: &mut Said) -> Fault {
 }
 
 fn read_row(row: u32, behind: &[u8]) -> Command {
-    let mut said = [0; 9];
+    let mut said = [0; SAID_COUNT];
     let fault = read_words(row, behind, &mut said);
     if !fault.is_none() {
         return Command::wrong(fault);

@@ -5,7 +5,9 @@ pub(crate) const MOST_WORDS: usize = 5;
 
 // A number for each word by its place behind the name: the number or the key that it says, or the slice's. Behind them stand the low end, the high end
 // and the two brackets of the stretch, of which a command takes at most one.
-pub type Said = [u32; 9];
+pub(crate) const SAID_COUNT: usize = 9;
+
+pub type Said = [u32; SAID_COUNT];
 
 pub(crate) const LOW: usize = 5;
 

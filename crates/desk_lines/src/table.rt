@@ -4,7 +4,7 @@ use crate::words;
 pub const ROW_COUNT: u32 = 19;
 
 // A row has three parts of so many bytes: the name; where the command is said in two words the second; and letters.
-pub(crate) const PART_WIDTH: usize = 8;
+const PART_WIDTH: usize = 8;
 
 const PARTS: usize = 3;
 
@@ -15,7 +15,8 @@ const SECOND: u32 = 1;
 const LETTERS: u32 = 2;
 
 // The letters: one for each word that the command takes (n a number, k a key, s a slice, [ a stretch), and two for what it asks: its kind (l lends
-// words, w takes them as words, c is a change and a a question of the box, b is for the bench card) and which of that kind.
+// words, w takes them as words, c is a change and a a question of the box, b is for the bench card, h is help) and which of that kind. Two kinds more are in no
+// row: `Command::nothing` and `Command::wrong`.
 pub(crate) const KIND: u32 = 6;
 
 pub(crate) const WHICH: u32 = 7;
@@ -54,7 +55,7 @@ pub fn name_byte(row: u32, at: u32) -> u8 {
     byte(row, NAME, at)
 }
 
-// A letter of the row: for a word its place behind the name, a blank where the command takes none.
+// A letter of a row: that of a word by its place behind the name, a blank where the command takes no such word; at KIND and WHICH what it asks.
 pub(crate) fn letter(row: u32, place: u32) -> u8 {
     byte(row, LETTERS, place)
 }

@@ -1,5 +1,5 @@
--- No second outcome meets the promise of making an empty profile: of two that meet what its `ensures` says, whatever it was lent and given, the answers are equal and
--- all three slices. Stated of the promise itself: one that said less would not settle the outcome.
+-- No second outcome meets the promise of making an empty profile: of two that meet what its `ensures` says, whatever it was lent, the answers are
+-- equal and all three slices. Stated of the promise itself: one that said less would not settle the outcome.
 -- Assumes nothing.
 use Prim.{Unit}
 use contract.Lifetimes.{Lfts}

@@ -16,7 +16,7 @@
 --   LaidSound      what is laid is sound and says the profile: each that stands and fits has such a memory
 --   SaidStands     the profile that sound memory says stands, and fits its room
 --   ChangeIn       what is so of every change of memory
---   SoundFirst     the line of soundness, by which a change of sound memory is judged first
+--   SoundFirst     the line of soundness, by which a change that asks for sound memory is judged first
 --   ToldBack       what the outcome of a call that changes says tells it back
 --   LentWords      what a call that is lent memory is given, as promises speak of it
 --   MemoryExample  the example of docs/MEMORY.md

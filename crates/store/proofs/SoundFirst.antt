@@ -1,4 +1,4 @@
--- What changes of a sound memory are judged by first: the line of soundness.
+-- What a change that asks for sound memory is judged by first: the line of soundness.
 -- Assumes nothing.
 use mathlib.Core.Path.{_≡_}
 use mathlib.Core.Bool.{true, false}

@@ -1,4 +1,5 @@
--- The lent memory as words: lengths and rooms, where each field stands, what words say, the one memory of a profile, and when memory is sound.
+-- The lent memory as words: lengths and rooms, where each field stands, what words say, the one memory of a profile, when memory is sound, what a
+-- change of it comes to, and what the outcome of a call that changes says.
 pub mod Words
 pub mod Sizes
 pub mod Memory
