@@ -14,15 +14,15 @@ use lib.ListN.{length, take, drop, replicate, length-map, length-take, take-appe
 use lib.Seq.{take-all}
 use Rattle.rules.specs.Lists.{member, countIf}
 use Rattle.rules.specs.HallLine.{Band, highestKey, holds}
-use Rattle.rules.specs.Flags.{flagCount, flagAt, countOf}
+use Rattle.rules.specs.Flags.{flagCount, flagAt}
 use Rattle.rules.specs.BoxSaysNo.{line, keyAbove, bandLines, keyFault, bandFault}
 use Rattle.rules.specs.BenchCard.{bad, recordFault, firstBad, cardBad, scanned, scanOf}
 use Rattle.rules.proofs.Means.{passes-or-fails, itself, denied, same-means, lt-means, at-most-or-above}
 use Rattle.rules.proofs.Lists.{In, Some, Each, each-cons, all-means, member-means, Distinct, distinct-means, in-middle, in-map}
 use Rattle.rules.proofs.Marks.{in-numbers, numbersOf, length-of-numbers, numbers-stay-apart, numbersHolding}
-use Rattle.rules.proofs.Flags.{flag-set-where-in, count-at-most-flags, count-without-repeats, flags-of-none, count-of-nothing}
+use Rattle.rules.proofs.Flags.{so-many-below, flag-set-where-in, count-without-repeats, flags-of-none, count-of-nothing}
 use Rattle.rules.proofs.FirstLine.{refusal-here, refusal-first, refusal-enough, refusal-zero, last-zero}
-use Rattle.rules.proofs.BoxSaysNo.{BandRight, band-lines-zero, key-fault-zero, band-fault-zero}
+use Rattle.rules.proofs.BoxSaysNo.{BandRight, numbers-right, band-lines-zero, key-fault-zero, band-fault-zero}
 
 -- ---- one record, after some numbers were seen
 
@@ -248,19 +248,12 @@ module _ (cards : List Band) (k : ℕ) where
 
 -- a right card has at most one record for each number
 right-card-short : (cards : List Band) → CardRight cards → length cards ≤ flagCount
-right-card-short cards r = omega (arith, each-counted, count-at-most-flags (numbersOf cards), length-map cards (λ b. b .number))
-  where
-    below : Each (λ n. n < 1024) (numbersOf cards)
-    below n i =
-        let s = in-map (λ b. b .number) n cards .0 i in
-        let right = r .records-right (s .0) (s .1) in
-        omega arith
-
-    each-counted : countOf (numbersOf cards) ≡ length (numbersOf cards)
-    each-counted =
-        count-without-repeats (numbersOf cards)
-        (all-means (λ n. lt-means n 1024) (numbersOf cards) .test below)
-        (distinct-means (numbersOf cards) .test (r .numbers-apart))
+right-card-short cards r =
+    omega (
+      arith,
+      so-many-below flagCount (numbersOf cards) (numbers-right cards (r .records-right)) (r .numbers-apart),
+      length-map cards (λ b. b .number),
+    )
 
 module _ (cards more : List Band) (k : ℕ) (w : FirstBad [] cards) where
   not-right : cardBad cards k .refusal ≡ 0 → ⊥

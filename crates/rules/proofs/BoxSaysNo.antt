@@ -18,10 +18,11 @@ use Rattle.rules.specs.Changes.{inserted, removed}
 use Rattle.rules.specs.Room.{Room, roomInRange}
 use Rattle.rules.specs.BoxSaysNo.{TableLine, refusalBy, sizesWrong, notSound, scopeAbove, numberAbove, keyAbove, endAbove, holdsNone, endElsewhere, levelWrong, numberLive, numberNotLive, scopeOther, nodesExceed, marksExceed, notThere, bandLines, keyFault, bandFault, faultOf, fitLines, fitRefusal, insertJudgedLines, removeJudgedLines, insertRefusal, removeRefusal, emptyRefusal, stabRefusal, bandReadRefusal, edgeReadRefusal, nodeReadRefusal, roomReadRefusal, changed, saying, answered}
 use Rattle.rules.proofs.Means.{Means, Fails, reworded, itself, denied, not-means, not-fails, and-means, and-fails, and3-means, or-means, or-fails, implies-fails, lt-means, lt-fails, le-means, le-fails, eq-means}
-use Rattle.rules.proofs.Lists.{Some, Each, any-means, any-fails}
+use Rattle.rules.proofs.Lists.{Some, Each, any-means, any-fails, in-map}
 use Rattle.rules.proofs.HallLine.{Own, own-key-means, holds-whole-key-means}
 use Rattle.rules.proofs.NodesLanesEdges.{Level, is-level-means, NodeAt, NoNodeAt, stands-at-means}
 use Rattle.rules.proofs.Profile.{has-number-means, is-live-means}
+use Rattle.rules.proofs.Marks.{numbersOf}
 use Rattle.rules.proofs.FirstLine.{line-other, line-own, last-own, line-zero, last-zero, refusal-enough, refusal-then, refusal-neither}
 
 -- ---- each line
@@ -124,6 +125,10 @@ pub record BandRight (b : Band) : Type 0 where
   pub high-on-line : b .high ≤ highestKey
   pub holds-key : holdsWholeKey b ≡ true
   pub in-scope : withinScope b ≡ true
+
+-- the numbers of right bands are right
+pub numbers-right : (bs : List Band) → Each BandRight bs → Each (λ n. n < suc highestBandNumber) (numbersOf bs)
+numbers-right bs right n i = let s = in-map (λ b. b .number) n bs .0 i in omega (arith, s .2, right (s .0) (s .1) .number-right)
 
 -- nothing is given by 2 to 6 and lines after them exactly when the band is right and nothing is given by the lines after them
 pub band-lines-zero : {X : Type 0} (b : Band) (ls : List TableLine) → (refusalBy ls ≡ 0) ↔ X

@@ -16,9 +16,9 @@ use lib.Count.{ones, ones-step}
 use Rattle.rules.specs.Connectives.{_and_, _or_, oneIf}
 use Rattle.rules.specs.Lists.{all, sumOf, member, distinct, countFrom}
 use Rattle.rules.specs.Flags.{flagCount, flagsOf, flagAt, countOf, setFlags, bitsFrom, wordsFrom}
-use Rattle.rules.proofs.Means.{and-both, itself, eq-means, same-means}
-use Rattle.rules.proofs.Lists.{In, member-means}
-use Rattle.rules.proofs.Sums.{at-most-one}
+use Rattle.rules.proofs.Means.{and-both, itself, lt-means, eq-means, same-means}
+use Rattle.rules.proofs.Lists.{In, Each, all-means, member-means, Distinct, distinct-means}
+use Rattle.rules.proofs.Sums.{at-most-one, either-and-both}
 
 oneIf-one-to-one : (b c : Bool) → oneIf b ≡ oneIf c → b ≡ c
 oneIf-one-to-one true true e = refl
@@ -135,18 +135,11 @@ count-of-none : (f : ℕ → Bool) → ((n : ℕ) → f n ≡ false) → (a m : 
 count-of-none f none a zero = refl
 count-of-none f none a (suc m) = rw (none a, count-of-none f none (suc a) m)
 
-oneIf-either-both : (b c : Bool) → oneIf (b or c) + oneIf (b and c) ≡ oneIf b + oneIf c
-unfolding _and_ _or_
-oneIf-either-both true true = refl
-oneIf-either-both true false = refl
-oneIf-either-both false true = refl
-oneIf-either-both false false = refl
-
 -- the count of a union, with the count of what is in both
 pub count-either-both : (f g : ℕ → Bool) (a m : ℕ)
     → countFrom (λ n. f n or g n) a m + countFrom (λ n. f n and g n) a m ≡ countFrom f a m + countFrom g a m
 count-either-both f g a zero = refl
-count-either-both f g a (suc m) = omega (arith, oneIf-either-both (f a) (g a), count-either-both f g (suc a) m)
+count-either-both f g a (suc m) = omega (arith, either-and-both (f a) (g a), count-either-both f g (suc a) m)
 
 module _ (x : ℕ) where
   count-past-number : (a m : ℕ) → x < a → countFrom (λ n. eqb n x) a m ≡ 0
@@ -198,6 +191,15 @@ count-of-distinct m (x ∷ xs) below apart =
       count-of-none (λ n. eqb n x and member n xs) (no-number-both x xs off) 0 m,
       number-counts-once x 0 m (omega arith) (omega arith),
       count-of-distinct m xs (b .1) (d .1),
+    )
+
+-- numbers below m without repeats are at most m
+pub so-many-below : (m : ℕ) (ns : List ℕ) → Each (λ n. n < m) ns → Distinct ns → length ns ≤ m
+so-many-below m ns below apart =
+    omega (
+      arith,
+      count-of-distinct m ns (all-means (λ n. lt-means n m) ns .test below) (distinct-means ns .test apart),
+      count-at-most (λ n. member n ns) 0 m,
     )
 
 -- ---- the flags and the count of a list of numbers

@@ -441,13 +441,21 @@ module _ {A : Type 0} (number : A → ℕ) where
   ascends-from c [] a = λ x i. absurd i
   ascends-from c (x ∷ xs) a = each-cons x xs .1 (a .0, ascends-from c xs (ascends-lower c (suc (number x)) xs (omega arith) (a .1)))
 
-  -- no number stands twice
+  -- no number stands twice ..
   pub ascends-once : (c : ℕ) (xs : List A) → Ascends c xs → (x y : A) → In x xs → In y xs → number x ≡ number y → x ≡ y
   ascends-once c [] a x y i j e = absurd i
   ascends-once c (z ∷ zs) a x y (inl p) (inl q) e = p ∙ sym q
   ascends-once c (z ∷ zs) a x y (inl p) (inr j) e = absurd (omega (arith, ap number p, ascends-from (suc (number z)) zs (a .1) y j))
   ascends-once c (z ∷ zs) a x y (inr i) (inl q) e = absurd (omega (arith, ap number q, ascends-from (suc (number z)) zs (a .1) x i))
   ascends-once c (z ∷ zs) a x y (inr i) (inr j) e = ascends-once (suc (number z)) zs (a .1) x y i j e
+
+  -- .. so that the list of the numbers is without repeats
+  pub ascends-apart : (c : ℕ) (xs : List A) → Ascends c xs → Distinct (map number xs)
+  ascends-apart c [] a = tt
+  ascends-apart c (x ∷ xs) a = (
+    λ i. let s = in-map number (number x) xs .0 i in omega (arith, s .2, ascends-from (suc (number x)) xs (a .1) (s .0) (s .1)),
+    ascends-apart (suc (number x)) xs (a .1),
+  )
 
   -- who is above the first stands after it
   above-first : (x y : A) (xs : List A) → number x < number y → In y (x ∷ xs) → In y xs

@@ -1,6 +1,7 @@
--- Laws of sums and counts over lists and lanes: sums of equals, split sums, sums taken in the other order; when a count is 0 or 1.
+-- Laws of sums and counts over lists and lanes: sums of equals, split sums, bounds of sums, sums taken in the other order; when a count is 0 or 1;
+-- how many there are of those that each go with one of others.
 -- Assumes nothing.
-use Prim.Native.Nat.{ℕ, zero, suc, _+_, _-_, _≤_}
+use Prim.Native.Nat.{ℕ, zero, suc, _+_, _-_, _*_, _≤_}
 use mathlib.Core.Path.{_≡_, refl, sym, _∙_, ap}
 use mathlib.Core.Bool.{Bool, true, false, not}
 use mathlib.Core.Logic.{_↔_, inl, inr, ⊎-elim}
@@ -32,6 +33,13 @@ here-or-higher true true = refl
 here-or-higher true false = refl
 here-or-higher false t = omega arith
 
+pub either-and-both : (s t : Bool) → oneIf (s or t) + oneIf (s and t) ≡ oneIf s + oneIf t
+unfolding _and_ _or_
+either-and-both true true = refl
+either-and-both true false = refl
+either-and-both false true = refl
+either-and-both false false = refl
+
 -- ---- sums over a list
 
 module _ {A : Type 0} where
@@ -54,6 +62,16 @@ module _ {A : Type 0} where
   pub sum-append : (f : A → ℕ) (xs ys : List A) → sumOf f (xs ++ ys) ≡ sumOf f xs + sumOf f ys
   sum-append f [] ys = omega arith
   sum-append f (x ∷ xs) ys = omega (arith, sum-append f xs ys)
+
+  -- a sum is at most m for each element where each number is ..
+  pub sum-at-most : (f : A → ℕ) (m : ℕ) (xs : List A) → Each (λ x. f x ≤ m) xs → sumOf f xs ≤ m * length xs
+  sum-at-most f m [] h = omega arith
+  sum-at-most f m (x ∷ xs) h = omega (arith, h x (inl refl), sum-at-most f m xs (λ y i. h y (inr i)))
+
+  -- .. and at least one for each where each number is
+  pub sum-at-least : (f : A → ℕ) (xs : List A) → Each (λ x. 1 ≤ f x) xs → length xs ≤ sumOf f xs
+  sum-at-least f [] h = omega arith
+  sum-at-least f (x ∷ xs) h = omega (arith, h x (inl refl), sum-at-least f xs (λ y i. h y (inr i)))
 
 -- sums over two lists may be taken in either order
 pub sum-by-rows-or-columns : {A B : Type 0} (f : A → B → ℕ) (xs : List A) (ys : List B)
@@ -92,6 +110,11 @@ module _ {A : Type 0} where
   pub count-split : (f g : A → Bool) (xs : List A) → countIf f xs ≡ countIf (λ x. f x and g x) xs + countIf (λ x. f x and not (g x)) xs
   count-split f g [] = refl
   count-split f g (x ∷ xs) = omega (arith, split-one (f x) (g x), count-split f g xs)
+
+  -- those that pass one of two tests are at most those that pass the first and those that pass the second
+  pub count-either : (f g : A → Bool) (xs : List A) → countIf (λ x. f x or g x) xs ≤ countIf f xs + countIf g xs
+  count-either f g [] = omega arith
+  count-either f g (x ∷ xs) = omega (arith, either-and-both (f x) (g x), count-either f g xs)
 
   -- where at most one passes, the count is 1 if one passes, else 0
   pub count-one : (number : A → ℕ) (f : A → Bool) (c : ℕ) (xs : List A) → Ascends number c xs
@@ -149,6 +172,17 @@ count-by-rows-or-columns f xs ys =
     sum-same xs (λ x i. count-sum (f x) ys)
     ∙ sum-by-rows-or-columns (λ x y. oneIf (f x y)) xs ys
     ∙ sum-same ys (λ y i. sym (count-sum (λ x. f x y) xs))
+
+-- where each of the xs goes with one of the ys at least, and each of the ys with m of the xs at most, there are at most m xs for each of the ys
+pub at-most-for-each : {A B : Type 0} (f : A → B → Bool) (m : ℕ) (xs : List A) (ys : List B) → Each (λ x. any (f x) ys ≡ true) xs
+    → Each (λ y. countIf (λ x. f x y) xs ≤ m) ys → length xs ≤ m * length ys
+at-most-for-each f m xs ys one few =
+    omega (
+      arith,
+      sum-at-least (λ x. countIf (f x) ys) xs (λ x i. counted-means (f x) ys .fact (one x i)),
+      count-by-rows-or-columns f xs ys,
+      sum-at-most (λ y. countIf (λ x. f x y) xs) m ys few,
+    )
 
 -- ---- sums over lanes
 

@@ -15,6 +15,7 @@
 --   Stops             the stops and stairs of a band's staircase
 --   Staircase         the walk by the highest edge inside the band visits exactly the marked slots
 --   StandingKept      a standing profile stays standing, and a sound one sound, whatever the call
+--   NodesPerBand      a standing profile has at most a band for each number and two nodes for each band, so its nodes fit the largest room
 --   RemoveRefusals    a remove can be refused by 12 and never by 11
 --   OneBand           into an empty profile a right one-key band goes in, and out again, in every room
 --   Lives             a number of no band that has come or gone reads the same; a live band is read as it is
@@ -38,6 +39,7 @@ pub mod MarkedSlots
 pub mod Stops
 pub mod Staircase
 pub mod StandingKept
+pub mod NodesPerBand
 pub mod RemoveRefusals
 pub mod OneBand
 pub mod Lives
