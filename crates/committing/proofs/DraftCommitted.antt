@@ -37,7 +37,7 @@ use Rattle.marking.proofs.CountsAndStarts.{starts-count}
 use Rattle.marking.proofs.Linked.{Linked}
 use Rattle.marking.proofs.LaidAll.{laid-all}
 use Rattle.linking.proofs.LinksLaid.{laid-links}
-use Rattle.drafting.specs.NodeDraft.{mostDrafted, draftWords}
+use Rattle.drafting.specs.NodeDraft.{draftWords}
 use Rattle.committing.specs.Committed.{committed, startsBy}
 
 -- ---- a completed draft laid
@@ -61,12 +61,12 @@ module _
     pub drafted-within : inUse draftNodes ≤ mostNodes
     drafted-within = omega (arith, said-nodes-length draftNodes, nodes-within)
 
-    -- the node words are whole places, and there are more of them in the draft
+    -- the node words are whole places, and the draft has as many words or more
     whole-places : nodePlaceWords * (length nodes / nodePlaceWords - 1 + 1) ≡ length nodes
     whole-places = let size = sizes-in-numbers (length bands) (length nodes) (length marks) .fact sizes in omega arith
 
     draft-length : length draftNodes ≡ draftWords
-    draft-length = ap length nodes-laid ∙ laid-nodes-length mostDrafted said (omega (arith, nodes-within))
+    draft-length = ap length nodes-laid ∙ laid-nodes-length mostNodes said (omega (arith, nodes-within))
 
     -- the walks can follow its links
     draft-linked : Linked draftNodes
@@ -90,7 +90,7 @@ module _
         let room : ℕ = length nodes / nodePlaceWords - 1 in
         copied-first draftNodes nodes (omega (arith, draft-length, whole-places, nodes-within))
         ∙ ap (take (length nodes)) nodes-laid
-        ∙ rw whole-places at (laid-nodes-taken room mostDrafted said (nodes-within .0) (omega (arith, nodes-within)))
+        ∙ rw whole-places at (laid-nodes-taken room mostNodes said (nodes-within .0) (omega (arith, nodes-within)))
 
     -- the mark words once laid
     marks-laid : (starts : List ℕ) → starts ≡ startsBy (replicate (length starts) 0) draftBands draftNodes → mostNodes * slotsPerNode < length starts

@@ -12,6 +12,7 @@ use Rattle.rules.specs.Lists.{sumOf}
 use Rattle.rules.specs.NodesLanesEdges.{Node, nodeOf, lanes}
 use Rattle.rules.specs.Profile.{Profile, profileOf}
 use Rattle.rules.specs.Marks.{marksInUse}
+use Rattle.rules.specs.Room.{mostNodes}
 use Rattle.rules.specs.Staircase.{slotsPerNode, slotNumber}
 use Rattle.rules.specs.SoundMemory.{standing}
 use Rattle.rules.proofs.Means.{at-most-or-above}
@@ -36,7 +37,7 @@ use Rattle.marking.proofs.CountsAndStarts.{counts-at-most}
 use Rattle.marking.proofs.StaircasesLay.{marks-count, same-staircases}
 use Rattle.marking.proofs.LaidAll.{starts-are-fences}
 use Rattle.linking.proofs.LinksLaid.{LinksLaid, laid-links}
-use Rattle.drafting.specs.NodeDraft.{mostDrafted, draftWords, nthNode, draftField, DraftOf}
+use Rattle.drafting.specs.NodeDraft.{draftWords, nthNode, draftField, DraftOf}
 use Rattle.committing.specs.LinkDraft.{linkedField}
 use Rattle.committing.specs.FenceDraft.{fencedField}
 use Rattle.committing.specs.Committed.{startsBy}
@@ -205,7 +206,7 @@ module _ (bands : List ℕ) {draft linked : List ℕ} (drafted : DraftOf (saidNo
         draft-laid : laid ≡ laidNodes draftWords p
         draft-laid =
             one-node-words p laid (laidNodes draftWords p) laid-words (laid-node-words draftWords p)
-            (fenced .size ∙ headed-size ∙ sym (laid-nodes-length mostDrafted p (drafted .fits)))
+            (fenced .size ∙ headed-size ∙ sym (laid-nodes-length mostNodes p (drafted .fits)))
 
         -- ---- the starts
 

@@ -1,7 +1,7 @@
 -- What a change leaves of a sound memory: all of its profile; the profile without the bands that pass a test; the profile without one number. And
 -- what is left is drafted once the nodes at the ends are.
 -- Assumes nothing.
-use Prim.Native.Nat.{ℕ, _*_, _≤_, _<_}
+use Prim.Native.Nat.{ℕ, _*_, _<_}
 use mathlib.Core.Path.{_≡_, refl, ap, subst, _∙_}
 use mathlib.Core.Bool.{Bool, true, not}
 use mathlib.Core.List.{List}
@@ -11,11 +11,8 @@ use lib.ListN.{length, replicate, length-replicate}
 use lib.Seq.{take-all}
 use Rattle.rules.specs.Lists.{keep}
 use Rattle.rules.specs.HallLine.{Band}
-use Rattle.rules.specs.NodesLanesEdges.{isEndOfSome}
 use Rattle.rules.specs.Profile.{Profile, hasNumber}
-use Rattle.rules.specs.Room.{mostNodes}
 use Rattle.rules.specs.Changes.{nodesAtEnds, withoutWhere, removed}
-use Rattle.rules.proofs.Lists.{length-keep}
 use Rattle.rules.proofs.SoundMemory.{Standing, SoundIn, keys-ascend-means, standing-means, sound-in-means}
 use Rattle.rules.proofs.Theory.StandingKept.{all-at-ends, without-stands}
 use Rattle.store.specs.Sizes.{bandPlaceWords, bandPlaces, roomFor}
@@ -46,18 +43,6 @@ left-drafted {p} {nodes = nodes} {draft = draft} l kept =
       bands-laid = l .bands-laid;
       nodes-drafted = subst (λ ns. DraftOf ns draft) (ap (λ bs. nodesAtEnds bs (saidNodes nodes)) said ∙ l .nodes-left) kept;
     }
-
--- what is left has no more nodes than the largest room
-pub left-nodes : {p : Profile} {bands nodes : List ℕ} → Leaves p bands nodes → length (p .nodes) ≤ mostNodes
-unfolding nodesAtEnds
-left-nodes {p} {nodes = nodes} l =
-    omega (
-      arith,
-      ap length (l .nodes-left),
-      length-keep (λ n. isEndOfSome (p .bands) (n .key)) (saidNodes nodes),
-      said-nodes-length nodes,
-      l .few,
-    )
 
 -- ---- of a sound memory
 

@@ -2,10 +2,9 @@
 -- insert.
 -- Assumes nothing.
 use mathlib.Core.Path.{_∙_}
-use native.Mathlib.Omega.{arith}
 use borrow.Author.Needs.{needs}
 use Rattle.store.proofs.Sound.{sound-means}
-use Rattle.drafting.proofs.WhatStays.{all-stay, left-nodes}
+use Rattle.drafting.proofs.WhatStays.{all-stay}
 use Rattle.inserting.proofs.InsertSteps.{insert-on-sound, entry-right, number-free, insert-committed}
 use Rattle.inserting.proofs.insert_with.Statement.{statement}
 use Rattle.inserting.proofs.insert_with.Tie as tie
@@ -25,7 +24,7 @@ put-entry-requires c κs =
     let copied = kept .before .before .before .before .before .before in
     let pre = copied .before .before .before .before .before .before .before .before .pre in
     let left = all-stay _ (insert-on-sound _ _ _ _ (pre .0)) (pre .1) (copied .copy .ensures) in
-    (_, kept .keep-ends .ensures _ left, entry-right _ _ _ _ (pre .0), number-free _ _ _ _ (pre .0), omega (arith, left-nodes left))
+    (_, kept .keep-ends .ensures _ left, entry-right _ _ _ _ (pre .0), number-free _ _ _ _ (pre .0))
 
 commit-requires : tie.Need-commit-requires
 commit-requires c κs =

@@ -9,13 +9,13 @@ use Rattle.drafting.proofs.entry_drafting.put_entry.Statement.{statemen
 use Rattle.drafting.proofs.entry_drafting.put_entry.Tie as tie
 
 put-node-requires : tie.Need-put-node-requires
-put-node-requires c κs = let pre = c .before .before .before .before .before .pre in first-asks (pre .1) (pre .4)
+put-node-requires c κs = let pre = c .before .before .before .before .before .pre in first-asks (pre .1) _ _ _ (pre .2) (pre .3)
 
 put-node-requires-2 : tie.Need-put-node-requires-2
 put-node-requires-2 c κs =
     let low = c .before .before .before in
     let pre = low .before .before .before .before .before .before .pre in
-    second-asks (pre .1) _ _ (low .put-node .ensures) (pre .4)
+    second-asks (pre .1) _ _ _ (pre .2) (pre .3) _ _ (low .put-node .ensures)
 
 put-band-requires : tie.Need-put-band-requires
 put-band-requires c κs = search needs
@@ -33,7 +33,7 @@ returns c =
     let low = high .before .before .before .before in
     let pre = low .before .before .before .before .before .before .pre in
     of-every (λ p. Drafts (inserted p _ _ _) _ _) (pre .1)
-    (entry-drafted (pre .1) _ _ _ (low .put-node .ensures) (high .put-node2 .ensures) (banded .put-band .ensures) (pre .2) (pre .3))
+    (entry-drafted (pre .1) _ _ _ (pre .2) (pre .3) (low .put-node .ensures) (high .put-node2 .ensures) (banded .put-band .ensures))
 
 pub put-entry-spec : {M : Type 1} → statement M
 put-entry-spec = tie.close (tie.spec put-node-requires put-node-requires-2 put-band-requires same-length same-length-2 returns)
