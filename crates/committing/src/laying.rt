@@ -6,15 +6,14 @@ ghost use lib.ListN.{length, replicate};
 ghost use Rattle.rules.specs.Profile.{Profile};
 ghost use Rattle.rules.specs.Room.{mostNodes};
 ghost use Rattle.rules.specs.Staircase.{slotsPerNode};
-ghost use Rattle.rules.specs.BoxSaysNo.{leaving};
 ghost use Rattle.rules.specs.SoundMemory.{standing, soundIn};
-ghost use Rattle.hall.specs.Says.{answerSays};
 ghost use Rattle.store.specs.Sizes.{sizesRight};
 ghost use Rattle.store.specs.Memory.{lent, lengthsIn, roomIn};
 ghost use Rattle.store.specs.SaidProfile.{saidBands, saidNodes, saidBy};
 ghost use Rattle.store.specs.LaidBands.{laidBands};
 ghost use Rattle.store.specs.LaidNodes.{laidNodes};
 ghost use Rattle.store.specs.LaidMemory.{laidMemory};
+ghost use Rattle.store.specs.Came.{came};
 ghost use Rattle.drafting.specs.NodeDraft.{draftWords, DraftOf};
 ghost use Rattle.drafting.specs.Drafts.{Drafts};
 ghost use Rattle.committing.specs.Committed.{committed, startsBy};
@@ -67,7 +66,7 @@ fn commit_with(
         × (mostNodes * slotsPerNode < length (now cursors))
         ⌝ }
     ensures { λ r. ⌜
-        leaving (answerSays r) (lent (now (bands .exit)) (now (nodes .exit)) (now (marks .exit)))
+        came r (now (bands .exit)) (now (nodes .exit)) (now (marks .exit))
         ≡ committed (lent (now (bands .entry)) (now (nodes .entry)) (now (marks .entry))) (saidBy (now («draft_bands» .entry)) (now («draft_nodes» .entry)))
         ⌝ }
 {
@@ -95,7 +94,7 @@ pub fn commit(
         ⌝ }
     ensures { λ r. ⌜
         ((p : Profile) → Drafts p (now («draft_bands» .entry)) (now («draft_nodes» .entry))
-        → leaving (answerSays r) (lent (now (bands .exit)) (now (nodes .exit)) (now (marks .exit)))
+        → came r (now (bands .exit)) (now (nodes .exit)) (now (marks .exit))
         ≡ committed (lent (now (bands .entry)) (now (nodes .entry)) (now (marks .entry))) p)
         ⌝ }
 {
