@@ -2,22 +2,20 @@
 -- in the room.
 -- Assumes nothing.
 use Prim.Native.Nat.{ℕ}
-use mathlib.Core.Path.{_≡_, subst}
+use mathlib.Core.Path.{_≡_}
 use mathlib.Core.Bool.{true}
 use Rattle.rules.specs.HallLine.{Band}
 use Rattle.rules.specs.Changes.{inserted}
-use Rattle.rules.specs.BoxSaysNo.{insertOutcome}
-use Rattle.rules.specs.SoundMemory.{soundIn}
-use Rattle.rules.proofs.BoxSaysNo.{InsertAccepted, insert-accepted, accepted-changes}
-use Rattle.rules.proofs.Theory.StandingKept.{insert-keeps-sound}
+use Rattle.rules.proofs.BoxSaysNo.{InsertAccepted, insert-accepted}
+use Rattle.rules.proofs.Theory.StandingKept.{insert-stands}
 use Rattle.store.specs.Sizes.{sizesRight}
 use Rattle.store.specs.Memory.{Memory, lengthsIn, roomIn}
 use Rattle.store.specs.SaidProfile.{saidProfile}
 use Rattle.store.specs.Sound.{sound}
-use Rattle.store.proofs.Sound.{sound-means, unsound-fails}
-use Rattle.store.proofs.SaidStands.{sizes-of-sound}
+use Rattle.store.proofs.Sound.{unsound-fails}
+use Rattle.store.proofs.SaidStands.{sizes-of-sound, said-stands}
 use Rattle.store.specs.ChangeIn.{changeIn}
-use Rattle.store.proofs.ChangeIn.{Fitting, LeavesSound, change-leaves}
+use Rattle.store.proofs.ChangeIn.{Fitting, LeavesSound, fitting-by-parts, change-leaves}
 use Rattle.inserting.specs.InsertCall.{insertRefusalIn, insertIn}
 
 module _ (m : Memory) (b : Band) (lo hi : ℕ) where
@@ -30,14 +28,12 @@ module _ (m : Memory) (b : Band) (lo hi : ℕ) where
   insert-was-sound z = insert-unrefused z .judged .memory-right
 
   pub insert-fitting : Fitting m (insertRefusalIn m b lo hi) (inserted (saidProfile m) b lo hi)
-  unfolding insertRefusalIn insertOutcome
+  unfolding insertRefusalIn
   insert-fitting =
-      let p = saidProfile m in
-      record {
-        sizes = λ z. sizes-of-sound m (insert-was-sound z);
-        fits = λ z. subst (λ q. soundIn (roomIn m) q ≡ true) (accepted-changes (insertRefusalIn m b lo hi) p (inserted p b lo hi) z)
-            (insert-keeps-sound (sizesRight (lengthsIn m)) (sound m) (roomIn m) p b lo hi (sound-means m .fact (insert-was-sound z) .in-room));
-      }
+      fitting-by-parts m _ _
+      (λ z. sizes-of-sound m (insert-was-sound z))
+      (λ z. insert-stands (sizesRight (lengthsIn m)) (sound m) (roomIn m) (saidProfile m) b lo hi (said-stands m (insert-was-sound z)) z)
+      (λ z. let t = insert-unrefused z in (t .nodes-fit, t .marks-fit))
 
   pub insert-leaves : insertIn m b lo hi .refusal ≡ 0 → LeavesSound m (inserted (saidProfile m) b lo hi) (insertIn m b lo hi .after)
   unfolding insertIn changeIn

@@ -2,21 +2,21 @@
 -- in the room.
 -- Assumes nothing.
 use Prim.Native.Nat.{ℕ}
-use mathlib.Core.Path.{_≡_, subst}
+use mathlib.Core.Path.{_≡_}
 use mathlib.Core.Bool.{true}
+use native.Mathlib.Omega.{arith}
 use Rattle.rules.specs.Changes.{removed}
-use Rattle.rules.specs.BoxSaysNo.{removeOutcome}
-use Rattle.rules.specs.SoundMemory.{soundIn}
-use Rattle.rules.proofs.BoxSaysNo.{RemoveAccepted, remove-accepted, accepted-changes}
-use Rattle.rules.proofs.Theory.StandingKept.{remove-keeps-sound}
+use Rattle.rules.proofs.Changes.{removed-nodes-no-more}
+use Rattle.rules.proofs.BoxSaysNo.{RemoveAccepted, remove-accepted}
+use Rattle.rules.proofs.Theory.StandingKept.{removed-stands}
 use Rattle.store.specs.Sizes.{sizesRight}
 use Rattle.store.specs.Memory.{Memory, lengthsIn, roomIn}
 use Rattle.store.specs.SaidProfile.{saidProfile}
 use Rattle.store.specs.Sound.{sound}
-use Rattle.store.proofs.Sound.{sound-means, unsound-fails}
-use Rattle.store.proofs.SaidStands.{sizes-of-sound}
+use Rattle.store.proofs.Sound.{unsound-fails}
+use Rattle.store.proofs.SaidStands.{sizes-of-sound, in-room, said-stands}
 use Rattle.store.specs.ChangeIn.{changeIn}
-use Rattle.store.proofs.ChangeIn.{Fitting, LeavesSound, change-leaves}
+use Rattle.store.proofs.ChangeIn.{Fitting, LeavesSound, fitting-by-parts, change-leaves}
 use Rattle.removing.specs.RemoveCall.{removeRefusalIn, removeIn}
 
 module _ (m : Memory) (number scope : ℕ) where
@@ -29,14 +29,11 @@ module _ (m : Memory) (number scope : ℕ) where
   remove-was-sound z = remove-unrefused z .judged .memory-right
 
   pub remove-fitting : Fitting m (removeRefusalIn m number scope) (removed (saidProfile m) number)
-  unfolding removeRefusalIn removeOutcome
   remove-fitting =
-      let p = saidProfile m in
-      record {
-        sizes = λ z. sizes-of-sound m (remove-was-sound z);
-        fits = λ z. subst (λ q. soundIn (roomIn m) q ≡ true) (accepted-changes (removeRefusalIn m number scope) p (removed p number) z)
-            (remove-keeps-sound (sizesRight (lengthsIn m)) (sound m) (roomIn m) p number scope (sound-means m .fact (remove-was-sound z) .in-room));
-      }
+      fitting-by-parts m _ _
+      (λ z. sizes-of-sound m (remove-was-sound z))
+      (λ z. removed-stands (saidProfile m) number (said-stands m (remove-was-sound z)))
+      (λ z. (omega (arith, removed-nodes-no-more (saidProfile m) number, in-room m (remove-was-sound z) .1 .nodes-fit), remove-unrefused z .marks-fit))
 
   pub remove-leaves : removeIn m number scope .refusal ≡ 0 → LeavesSound m (removed (saidProfile m) number) (removeIn m number scope .after)
   unfolding removeIn changeIn

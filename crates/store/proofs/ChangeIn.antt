@@ -2,15 +2,18 @@
 -- are right and the profile after it may soundly stand in the room, it keeps sound memory sound and every memory as long as it was, and does to
 -- the profile that memory says what it does to memory.
 -- Assumes nothing.
-use Prim.Native.Nat.{ℕ, zero, suc}
+use Prim.Native.Nat.{ℕ, zero, suc, _≤_}
 use mathlib.Core.Path.{_≡_, refl, sym, _∙_, ap, subst}
 use mathlib.Core.Bool.{true}
 use native.Mathlib.Omega.{arith}
+use lib.ListN.{length}
 use borrow.Author.Tests.{ne-eqb}
 use Rattle.rules.specs.Profile.{Profile}
+use Rattle.rules.specs.Marks.{marksInUse}
 use Rattle.rules.specs.BoxSaysNo.{leaving, changed}
 use Rattle.rules.specs.SoundMemory.{soundIn}
-use Rattle.rules.proofs.BoxSaysNo.{refused-unchanged, accepted-changes, change-keeps}
+use Rattle.rules.proofs.BoxSaysNo.{fit-refusal-zero, refused-unchanged, accepted-changes, change-keeps}
+use Rattle.rules.proofs.SoundMemory.{Standing, standing-means, sound-where-fits}
 use Rattle.store.specs.Sizes.{sizesRight}
 use Rattle.store.specs.Memory.{Memory, lengthsIn, roomIn}
 use Rattle.store.specs.SaidProfile.{saidProfile}
@@ -32,6 +35,17 @@ pub record LeavesSound (m : Memory) (p : Profile) (w : Memory) : Type 0 where
   pub same-lengths : lengthsIn w ≡ lengthsIn m
 
 module _ (m : Memory) (refusal : ℕ) (after : Profile) where
+  -- a call shows it by parts: where sizes are right the room is in range, so it is enough that the profile after it stands and is within the room
+  pub fitting-by-parts : (refusal ≡ 0 → sizesRight (lengthsIn m) ≡ true) → (refusal ≡ 0 → Standing after)
+      → (refusal ≡ 0 → (length (after .nodes) ≤ roomIn m .nodes) × (marksInUse after ≤ roomIn m .marks)) → Fitting m refusal after
+  unfolding roomIn
+  fitting-by-parts sizes stands within =
+      record {
+        sizes = sizes;
+        fits = λ z. sound-where-fits (roomIn m) after (right-lengths (lengthsIn m) (sizes z) .0) (standing-means after .test (stands z))
+            (fit-refusal-zero (roomIn m) after .1 (within z));
+      }
+
   pub change-refusal : changeIn m refusal after .refusal ≡ refusal
   unfolding changeIn
   change-refusal = refl
