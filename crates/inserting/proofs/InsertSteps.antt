@@ -2,7 +2,7 @@
 -- what is known, and that 11 and 12 of the profile with the band decide.
 -- Assumes nothing.
 use Prim.Native.Nat.{ℕ}
-use mathlib.Core.Path.{_≡_, sym, ap, _∙_}
+use mathlib.Core.Path.{_≡_, refl, sym, ap, _∙_}
 use mathlib.Core.Bool.{true, false, cond}
 use mathlib.Core.List.{List, [], _∷_, _++_}
 use native.Mathlib.Omega.{arith}
@@ -10,32 +10,34 @@ use Rattle.rules.specs.Connectives.{saysYes}
 use Rattle.rules.specs.HallLine.{Band}
 use Rattle.rules.specs.Profile.{isLive}
 use Rattle.rules.specs.Changes.{inserted}
-use Rattle.rules.specs.BoxSaysNo.{TableLine, faultLines, numberLive, faultOf, leaving}
+use Rattle.rules.specs.BoxSaysNo.{TableLine, faultLines, numberLive, faultOf, fitLines, fitRefusal, insertJudgedLines, insertRefusal, leaving}
 use Rattle.rules.proofs.Means.{denied}
 use Rattle.rules.proofs.Lists.{any-fails}
 use Rattle.rules.proofs.Profile.{has-number-means}
 use Rattle.rules.proofs.FirstLine.{refusal-enough, refusal-then}
-use Rattle.rules.proofs.BoxSaysNo.{fault-zero, InsertJudged, insert-judged-zero, insert-by-judged, insert-by-fit}
+use Rattle.rules.proofs.BoxSaysNo.{fault-zero, InsertJudged, insert-judged-zero}
 use Rattle.store.specs.Sizes.{sizesRight}
 use Rattle.store.specs.Memory.{Memory, lengthsIn, roomIn}
 use Rattle.store.specs.Places.{bandField, liveField}
 use Rattle.store.specs.SaidProfile.{saidProfile}
 use Rattle.store.specs.Sound.{sound}
-use Rattle.store.specs.ChangeIn.{changeIn}
 use Rattle.store.proofs.SaidBands.{live-by-place}
 use Rattle.store.proofs.Sound.{unsound-fails}
-use Rattle.store.proofs.ChangeIn.{refused-leaves}
 use Rattle.committing.specs.Committed.{committed}
 use Rattle.inserting.specs.InsertCall.{insertRefusalIn, insertIn, insertJudged}
 use Rattle.store.proofs.SoundFirst.{unsound-given, sound-passed}
+use Rattle.store.proofs.JudgedFirst.{judged-refused, judged-then-fit}
 
 module _ (m : Memory) (b : Band) (lo hi : ℕ) where
-  -- the lines of 8, and of 2 to 8
+  -- the lines of 8, of 2 to 8, and of 1 to 8
   abbrev lineOf8 : List TableLine
   lineOf8 = numberLive (saidProfile m) (b .number) ∷ []
 
   abbrev linesFrom2 : List TableLine
   linesFrom2 = faultLines b lo hi ++ lineOf8
+
+  abbrev judgedLines : List TableLine
+  judgedLines = insertJudgedLines (sizesRight (lengthsIn m)) (sound m) (saidProfile m) b lo hi
 
   -- ---- judging 1 to 8
 
@@ -72,10 +74,8 @@ module _ (m : Memory) (b : Band) (lo hi : ℕ) where
 
   -- a number given stands: 11 and 12 after them play no part
   pub insert-refused : (n : ℕ) → n ≡ insertJudged m b lo hi → (n ≡ 0 → ⊥) → leaving n m ≡ insertIn m b lo hi
-  unfolding insertIn insertRefusalIn insertJudged
-  insert-refused n judged given =
-      refused-leaves m (insertRefusalIn m b lo hi) (inserted (saidProfile m) b lo hi) n
-      (insert-by-judged (sizesRight (lengthsIn m)) (sound m) (roomIn m) (saidProfile m) b lo hi (λ z. given (judged ∙ z)) ∙ sym judged) given
+  unfolding insertIn insertRefusalIn insertRefusal insertJudged
+  insert-refused = judged-refused m judgedLines (fitLines (roomIn m) (inserted (saidProfile m) b lo hi)) _
 
   -- where they give nothing
   module _ (judged : insertJudged m b lo hi ≡ 0) where
@@ -99,7 +99,5 @@ module _ (m : Memory) (b : Band) (lo hi : ℕ) where
 
     -- 11 and 12 decide
     pub insert-committed : committed m (inserted (saidProfile m) b lo hi) ≡ insertIn m b lo hi
-    unfolding committed insertIn insertRefusalIn insertJudged
-    insert-committed =
-        ap (λ r. changeIn m r (inserted (saidProfile m) b lo hi))
-        (sym (insert-by-fit (sizesRight (lengthsIn m)) (sound m) (roomIn m) (saidProfile m) b lo hi judged))
+    unfolding committed insertIn insertRefusalIn insertRefusal insertJudged fitRefusal
+    insert-committed = judged-then-fit m judgedLines (fitLines (roomIn m) (inserted (saidProfile m) b lo hi)) _ (omega arith) refl judged

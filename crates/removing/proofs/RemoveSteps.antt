@@ -10,32 +10,37 @@ use borrow.Author.Tests.{lt-ltb, le-ltb}
 use Rattle.rules.specs.Connectives.{saysYes}
 use Rattle.rules.specs.HallLine.{Band, house, highestBandNumber}
 use Rattle.rules.specs.Changes.{removed}
-use Rattle.rules.specs.BoxSaysNo.{TableLine, refusalBy, scopeAbove, numberAbove, numberNotLive, scopeOther, leaving}
+use Rattle.rules.specs.BoxSaysNo.{TableLine, refusalBy, scopeAbove, numberAbove, numberNotLive, scopeOther, marksExceed, fitRefusal, removeJudgedLines, removeRefusal, leaving}
 use Rattle.rules.proofs.Means.{Means, reworded, denied}
 use Rattle.rules.proofs.Lists.{ascends-once}
-use Rattle.rules.proofs.BoxSaysNo.{scope-other-means, RemoveJudged, remove-judged-zero, remove-by-judged}
-use Rattle.rules.proofs.Theory.RemoveRefusals.{remove-by-fit}
+use Rattle.rules.proofs.BoxSaysNo.{scope-other-means, RemoveJudged, remove-judged-zero}
+use Rattle.rules.proofs.Theory.RemoveRefusals.{eleven-not-after-remove}
 use Rattle.store.specs.Sizes.{bandPlaces, sizesRight}
 use Rattle.store.specs.Memory.{Memory, lengthsIn, roomIn}
 use Rattle.store.specs.Places.{bandField, liveField}
 use Rattle.store.specs.SaidProfile.{saidBand, saidBands, saidProfile}
 use Rattle.store.specs.Sound.{sound}
-use Rattle.store.specs.ChangeIn.{changeIn}
 use Rattle.store.proofs.SaidBands.{said-bands-ascend, in-said-bands, live-by-place}
 use Rattle.store.proofs.Sound.{unsound-fails}
 use Rattle.store.proofs.SaidStands.{in-room}
-use Rattle.store.proofs.ChangeIn.{refused-leaves}
 use Rattle.committing.specs.Committed.{committed}
 use Rattle.removing.specs.RemoveCall.{removeRefusalIn, removeIn, removeJudged}
 use Rattle.store.proofs.SoundFirst.{unsound-given, sound-passed}
+use Rattle.store.proofs.JudgedFirst.{judged-refused, judged-then-fit}
 
 module _ (m : Memory) (number scope : ℕ) where
-  -- of the lines of 1, 2, 3, 9 and 10 those from 9 on, and those from 2 on
+  -- of the lines of 1, 2, 3, 9 and 10 those from 9 on, those from 2 on, and all; and the line of 12
   abbrev linesFrom9 : List TableLine
   linesFrom9 = numberNotLive (saidProfile m) number ∷ scopeOther (saidProfile m) number scope ∷ []
 
   abbrev linesFrom2 : List TableLine
   linesFrom2 = scopeAbove scope ∷ numberAbove number ∷ linesFrom9
+
+  abbrev judgedLines : List TableLine
+  judgedLines = removeJudgedLines (sizesRight (lengthsIn m)) (sound m) (saidProfile m) number scope
+
+  abbrev lineOf12 : List TableLine
+  lineOf12 = marksExceed (roomIn m) (removed (saidProfile m) number) ∷ []
 
   -- ---- judging 1, 2, 3, 9 and 10
 
@@ -96,10 +101,8 @@ module _ (m : Memory) (number scope : ℕ) where
 
   -- a number given stands: 12 after them plays no part
   pub remove-refused : (n : ℕ) → n ≡ removeJudged m number scope → (n ≡ 0 → ⊥) → leaving n m ≡ removeIn m number scope
-  unfolding removeIn removeRefusalIn removeJudged
-  remove-refused n judged given =
-      refused-leaves m (removeRefusalIn m number scope) (removed (saidProfile m) number) n
-      (remove-by-judged (sizesRight (lengthsIn m)) (sound m) (roomIn m) (saidProfile m) number scope (λ z. given (judged ∙ z)) ∙ sym judged) given
+  unfolding removeIn removeRefusalIn removeRefusal removeJudged
+  remove-refused = judged-refused m judgedLines lineOf12 _
 
   -- where they give nothing
   module _ (judged : removeJudged m number scope ≡ 0) where
@@ -118,7 +121,7 @@ module _ (m : Memory) (number scope : ℕ) where
 
     -- 12 decides: 11 never applies
     pub remove-committed : committed m (removed (saidProfile m) number) ≡ removeIn m number scope
-    unfolding committed removeIn removeRefusalIn removeJudged
+    unfolding committed removeIn removeRefusalIn removeRefusal removeJudged fitRefusal
     remove-committed =
-        ap (λ r. changeIn m r (removed (saidProfile m) number))
-        (sym (remove-by-fit (roomIn m) (saidProfile m) number (sizesRight (lengthsIn m)) (sound m) scope (in-room m remove-on-sound .1 .nodes-fit) judged))
+        judged-then-fit m judgedLines lineOf12 _ (omega arith)
+        (rw (eleven-not-after-remove (roomIn m) (saidProfile m) number (in-room m remove-on-sound .1 .nodes-fit))) judged

@@ -213,30 +213,6 @@ pub record RemoveAccepted (Sound : Type 0) (room : Room) (p : Profile) (number s
   pub judged : RemoveJudged Sound p number scope
   pub marks-fit : marksInUse (removed p number) ≤ room .marks
 
--- what 1 to 8 give of an insert stands ..
-pub insert-by-judged : (sizesRight sound : Bool) (room : Room) (p : Profile) (b : Band) (lo hi : ℕ)
-    → (refusalBy (insertJudgedLines sizesRight sound p b lo hi) ≡ 0 → ⊥)
-    → insertRefusal sizesRight sound room p b lo hi ≡ refusalBy (insertJudgedLines sizesRight sound p b lo hi)
-unfolding insertRefusal
-insert-by-judged sizesRight sound room p b lo hi h =
-    refusal-enough (insertJudgedLines sizesRight sound p b lo hi) (fitLines room (inserted p b lo hi)) h
-
--- .. and where they give nothing the profile after it decides
-pub insert-by-fit : (sizesRight sound : Bool) (room : Room) (p : Profile) (b : Band) (lo hi : ℕ)
-    → refusalBy (insertJudgedLines sizesRight sound p b lo hi) ≡ 0
-    → insertRefusal sizesRight sound room p b lo hi ≡ fitRefusal room (inserted p b lo hi)
-unfolding insertRefusal fitRefusal
-insert-by-fit sizesRight sound room p b lo hi z =
-    refusal-then (insertJudgedLines sizesRight sound p b lo hi) (fitLines room (inserted p b lo hi)) (omega arith) z
-
--- what 1, 2, 3, 9 and 10 give of a remove stands (and where they give nothing: `remove-by-fit` of Theory.RemoveRefusals)
-pub remove-by-judged : (sizesRight sound : Bool) (room : Room) (p : Profile) (number scope : ℕ)
-    → (refusalBy (removeJudgedLines sizesRight sound p number scope) ≡ 0 → ⊥)
-    → removeRefusal sizesRight sound room p number scope ≡ refusalBy (removeJudgedLines sizesRight sound p number scope)
-unfolding removeRefusal
-remove-by-judged sizesRight sound room p number scope h =
-    refusal-enough (removeJudgedLines sizesRight sound p number scope) (marksExceed room (removed p number) ∷ []) h
-
 module _ (sizesRight sound : Bool) {Sound : Type 0} (right : Fails (notSound sizesRight sound .applies) Sound) where
   pub insert-judged-zero : (p : Profile) (b : Band) (lo hi : ℕ)
       → (refusalBy (insertJudgedLines sizesRight sound p b lo hi) ≡ 0) ↔ InsertJudged Sound p b lo hi

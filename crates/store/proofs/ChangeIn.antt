@@ -7,10 +7,9 @@ use mathlib.Core.Path.{_≡_, refl, sym, _∙_, ap, subst}
 use mathlib.Core.Bool.{true}
 use native.Mathlib.Omega.{arith}
 use lib.ListN.{length}
-use borrow.Author.Tests.{ne-eqb}
 use Rattle.rules.specs.Profile.{Profile}
 use Rattle.rules.specs.Marks.{marksInUse}
-use Rattle.rules.specs.BoxSaysNo.{leaving, changed}
+use Rattle.rules.specs.BoxSaysNo.{changed}
 use Rattle.rules.specs.SoundMemory.{soundIn}
 use Rattle.rules.proofs.BoxSaysNo.{fit-refusal-zero, refused-unchanged, accepted-changes, change-keeps}
 use Rattle.rules.proofs.SoundMemory.{Standing, standing-means, sound-where-fits}
@@ -59,11 +58,6 @@ module _ (m : Memory) (refusal : ℕ) (after : Profile) where
   pub change-accepted : refusal ≡ 0 → changeIn m refusal after .after ≡ laidMemory (roomIn m) after
   unfolding changeIn
   change-accepted z = accepted-changes refusal m (laidMemory (roomIn m) after) z
-
-  -- so where a number is given it is answered, and memory is left
-  pub refused-leaves : (n : ℕ) → refusal ≡ n → (n ≡ 0 → ⊥) → leaving n m ≡ changeIn m refusal after
-  unfolding changeIn
-  refused-leaves n e given = rw (e, ne-eqb n 0 given)
 
   -- what is so of memory as it was, and of what the change leaves where nothing refuses it, is so of what it leaves, accepted or refused
   pub change-leaves-so : (P : Memory → Type 0) → P m → (refusal ≡ 0 → P (changeIn m refusal after .after)) → P (changeIn m refusal after .after)

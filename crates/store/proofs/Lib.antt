@@ -17,6 +17,7 @@
 --   SaidStands     the profile that sound memory says stands, and fits its room
 --   ChangeIn       what is so of every change of memory
 --   SoundFirst     the line of soundness, by which a change that asks for sound memory is judged first
+--   JudgedFirst    a change that lines judge before it is made ready: what those give stands, or 11 and 12 decide
 --   ToldBack       what the outcome of a call that changes says tells it back
 --   LentWords      what a call that is lent memory is given, as promises speak of it
 --   MemoryExample  the example of docs/MEMORY.md
@@ -47,6 +48,7 @@ pub mod LaidSound
 pub mod SaidStands
 pub mod ChangeIn
 pub mod SoundFirst
+pub mod JudgedFirst
 pub mod ToldBack
 pub mod LentWords
 pub mod LinkMarks
