@@ -1,38 +1,67 @@
--- What is so of every change that owes what changes owe, and of memory left as it was, is so of every call: a call that changes is such a change,
--- and one that asks leaves memory as it was.
+-- Every call by its own definition is a call by the rules, with one case for each: a call that asks leaves memory as it was, and the rules leave the
+-- profile; a call that changes is a change to the profile that the rules come to, owing what changes owe. Both answer what their lines give. So what is so
+-- of every such change, and of memory left as it was, is so of every call.
 -- Assumes nothing.
 use Prim.Native.Nat.{ℕ}
-use Rattle.rules.specs.Profile.{Profile, emptyProfile}
-use Rattle.rules.specs.Changes.{inserted, removed}
-use Rattle.rules.specs.BoxSaysNo.{emptyRefusal}
+use mathlib.Core.Path.{_≡_, refl, sym, subst}
+use mathlib.Core.Logic.{_⊎_, inl, inr, ⊎-elim}
+use Rattle.rules.specs.Profile.{Profile}
+use Rattle.rules.specs.BoxSaysNo.{refusalBy, Change, leaving, emptyRefusal, insertRefusal, removeRefusal, stabRefusal, roomReadRefusal}
 use Rattle.rules.specs.Calls.{Call, emptying, inserting, removing, checking, stabbing, readingBand, readingEdge, readingNode, readingRoom}
+use Rattle.rules.specs.RuledCalls.{linesBy, knownOf, afterAccepted}
 use Rattle.store.specs.Sizes.{sizesRight}
-use Rattle.store.specs.Memory.{Memory, lengthsIn}
+use Rattle.store.specs.Memory.{Memory, lengthsIn, roomIn}
 use Rattle.store.specs.SaidProfile.{saidProfile}
+use Rattle.store.specs.Sound.{sound}
 use Rattle.store.specs.ChangeIn.{changeIn}
 use Rattle.store.proofs.ChangeIn.{Fitting}
 use Rattle.emptying.specs.EmptyCall.{emptyIn}
 use Rattle.inserting.specs.InsertCall.{insertRefusalIn, insertIn}
 use Rattle.removing.specs.RemoveCall.{removeRefusalIn, removeIn}
+use Rattle.asking.specs.StabCall.{stabIn}
+use Rattle.asking.specs.BandCall.{bandIn, bandRefusalIn}
+use Rattle.asking.specs.EdgeCall.{edgeIn, edgeRefusalIn}
+use Rattle.asking.specs.NodeCall.{nodeIn, nodeRefusalIn}
+use Rattle.asking.specs.RoomCall.{roomReadIn}
 use Rattle.emptying.proofs.Accepted.{empty-fitting}
 use Rattle.inserting.proofs.Accepted.{insert-fitting}
 use Rattle.removing.proofs.Accepted.{remove-fitting}
-use Rattle.demands.specs.Calls.{afterCall}
-use Rattle.demands.specs.Lines.{refusalOf}
+use Rattle.demands.specs.Calls.{callIn, refusalOf, afterCall}
+use Rattle.demands.specs.Lines.{linesOf}
+
+-- the call asks
+pub record Asks (m : Memory) (c : Call) : Type 0 where
+  pub comes-to : callIn m c ≡ leaving (refusalBy (linesOf m c)) m
+  pub leaves-profile : afterAccepted (saidProfile m) c ≡ saidProfile m
+
+-- the call changes; what it is judged by is what the rules know of the profile that the words say
+pub record Changes (m : Memory) (c : Call) : Type 0 where
+  pub comes-to : callIn m c ≡ changeIn m (refusalBy (linesOf m c)) (afterAccepted (saidProfile m) c)
+  pub fitting : Fitting m (refusalBy (linesOf m c)) (afterAccepted (saidProfile m) c)
+  pub judged-as-ruled : linesOf m c ≡ linesBy (knownOf (sizesRight (lengthsIn m)) (sound m) (roomIn m) (saidProfile m)) c
+
+pub asks-or-changes : (m : Memory) (c : Call) → Asks m c ⊎ Changes m c
+unfolding emptyIn emptyRefusal insertIn insertRefusalIn insertRefusal removeIn removeRefusalIn removeRefusal stabIn stabRefusal bandIn bandRefusalIn edgeIn edgeRefusalIn nodeIn nodeRefusalIn roomReadIn roomReadRefusal
+asks-or-changes m emptying = inr (record { comes-to = refl; fitting = empty-fitting m; judged-as-ruled = refl })
+asks-or-changes m (inserting b lo hi) = inr (record { comes-to = refl; fitting = insert-fitting m b lo hi; judged-as-ruled = refl })
+asks-or-changes m (removing number scope) = inr (record { comes-to = refl; fitting = remove-fitting m number scope; judged-as-ruled = refl })
+asks-or-changes m checking = inl (record { comes-to = refl; leaves-profile = refl })
+asks-or-changes m (stabbing k) = inl (record { comes-to = refl; leaves-profile = refl })
+asks-or-changes m (readingBand number) = inl (record { comes-to = refl; leaves-profile = refl })
+asks-or-changes m (readingEdge k lane) = inl (record { comes-to = refl; leaves-profile = refl })
+asks-or-changes m (readingNode k) = inl (record { comes-to = refl; leaves-profile = refl })
+asks-or-changes m readingRoom = inl (record { comes-to = refl; leaves-profile = refl })
 
 -- Q is what is so of the number that a call answers and the memory that it leaves
 pub every-call : (m : Memory) (Q : ℕ → Memory → Type 0) → ((n : ℕ) → Q n m)
     → ((refusal : ℕ) (after : Profile) → Fitting m refusal after → Q refusal (changeIn m refusal after .after))
     → (c : Call) → Q (refusalOf m c) (afterCall m c)
-unfolding emptyIn insertIn removeIn changeIn
-every-call m Q same change emptying = change (emptyRefusal (sizesRight (lengthsIn m))) emptyProfile (empty-fitting m)
-every-call m Q same change (inserting b lo hi) =
-    change (insertRefusalIn m b lo hi) (inserted (saidProfile m) b lo hi) (insert-fitting m b lo hi)
-every-call m Q same change (removing number scope) =
-    change (removeRefusalIn m number scope) (removed (saidProfile m) number) (remove-fitting m number scope)
-every-call m Q same change checking = same _
-every-call m Q same change (stabbing k) = same _
-every-call m Q same change (readingBand number) = same _
-every-call m Q same change (readingEdge k lane) = same _
-every-call m Q same change (readingNode k) = same _
-every-call m Q same change readingRoom = same _
+unfolding changeIn
+every-call m Q same change c =
+    ⊎-elim
+    (λ a. so (a .comes-to) (same (refusalBy (linesOf m c))))
+    (λ a. so (a .comes-to) (change (refusalBy (linesOf m c)) (afterAccepted (saidProfile m) c) (a .fitting)))
+    (asks-or-changes m c)
+  where
+    so : {o : Change Memory} → callIn m c ≡ o → Q (o .refusal) (o .after) → Q (refusalOf m c) (afterCall m c)
+    so e = subst (λ (o : Change Memory). Q (o .refusal) (o .after)) (sym e)

@@ -5,8 +5,7 @@ use mathlib.Core.Path.{_≡_, refl}
 use Rattle.rules.specs.Calls.{Call}
 use Rattle.store.specs.Memory.{Memory}
 use Rattle.store.proofs.ChangeIn.{change-refused}
-use Rattle.demands.specs.Calls.{afterCall}
-use Rattle.demands.specs.Lines.{refusalOf}
+use Rattle.demands.specs.Calls.{refusalOf, afterCall}
 use Rattle.demands.proofs.EveryCall.{every-call}
 
 -- of every call that changes memory; the check, stabs and readouts leave it as it was in any case

@@ -1,3 +1,3 @@
--- Every call that the box takes: the memory after it, and when it is refused.
+-- Every call that the box takes: what it comes to on a memory, and when it is refused.
 pub mod Calls
 pub mod Lines

@@ -6,16 +6,18 @@ use mathlib.Core.Path.{_≡_}
 use mathlib.Core.Bool.{true}
 use Rattle.rules.specs.HallLine.{Band}
 use Rattle.rules.specs.Changes.{inserted}
+use Rattle.rules.specs.BoxSaysNo.{insertRefusal}
+use Rattle.rules.specs.Calls.{inserting}
 use Rattle.rules.proofs.BoxSaysNo.{InsertAccepted, insert-accepted}
-use Rattle.rules.proofs.Theory.StandingKept.{insert-stands}
+use Rattle.rules.proofs.Theory.StandingKept.{accepted-sound}
 use Rattle.store.specs.Sizes.{sizesRight}
 use Rattle.store.specs.Memory.{Memory, lengthsIn, roomIn}
 use Rattle.store.specs.SaidProfile.{saidProfile}
 use Rattle.store.specs.Sound.{sound}
-use Rattle.store.proofs.Sound.{unsound-fails}
-use Rattle.store.proofs.SaidStands.{sizes-of-sound, said-stands}
+use Rattle.store.proofs.Sound.{sound-means, unsound-fails}
+use Rattle.store.proofs.SaidStands.{sizes-of-sound}
 use Rattle.store.specs.ChangeIn.{changeIn}
-use Rattle.store.proofs.ChangeIn.{Fitting, LeavesSound, fitting-by-parts, change-leaves}
+use Rattle.store.proofs.ChangeIn.{Fitting, LeavesSound, change-leaves}
 use Rattle.inserting.specs.InsertCall.{insertRefusalIn, insertIn}
 
 module _ (m : Memory) (b : Band) (lo hi : ℕ) where
@@ -28,12 +30,13 @@ module _ (m : Memory) (b : Band) (lo hi : ℕ) where
   insert-was-sound z = insert-unrefused z .judged .memory-right
 
   pub insert-fitting : Fitting m (insertRefusalIn m b lo hi) (inserted (saidProfile m) b lo hi)
-  unfolding insertRefusalIn
+  unfolding insertRefusalIn insertRefusal
   insert-fitting =
-      fitting-by-parts m _ _
-      (λ z. sizes-of-sound m (insert-was-sound z))
-      (λ z. insert-stands (sizesRight (lengthsIn m)) (sound m) (roomIn m) (saidProfile m) b lo hi (said-stands m (insert-was-sound z)) z)
-      (λ z. let t = insert-unrefused z in (t .nodes-fit, t .marks-fit))
+      record {
+        sizes = λ z. sizes-of-sound m (insert-was-sound z);
+        fits = λ z. accepted-sound (sizesRight (lengthsIn m)) (sound m) (roomIn m) (saidProfile m) (inserting b lo hi) z
+            (sound-means m .fact (insert-was-sound z) .in-room);
+      }
 
   pub insert-leaves : insertIn m b lo hi .refusal ≡ 0 → LeavesSound m (inserted (saidProfile m) b lo hi) (insertIn m b lo hi .after)
   unfolding insertIn changeIn

@@ -4,19 +4,19 @@
 use Prim.Native.Nat.{ℕ}
 use mathlib.Core.Path.{_≡_}
 use mathlib.Core.Bool.{true}
-use native.Mathlib.Omega.{arith}
 use Rattle.rules.specs.Changes.{removed}
-use Rattle.rules.proofs.Changes.{removed-nodes-no-more}
+use Rattle.rules.specs.BoxSaysNo.{removeRefusal}
+use Rattle.rules.specs.Calls.{removing}
 use Rattle.rules.proofs.BoxSaysNo.{RemoveAccepted, remove-accepted}
-use Rattle.rules.proofs.Theory.StandingKept.{removed-stands}
+use Rattle.rules.proofs.Theory.StandingKept.{accepted-sound}
 use Rattle.store.specs.Sizes.{sizesRight}
 use Rattle.store.specs.Memory.{Memory, lengthsIn, roomIn}
 use Rattle.store.specs.SaidProfile.{saidProfile}
 use Rattle.store.specs.Sound.{sound}
-use Rattle.store.proofs.Sound.{unsound-fails}
-use Rattle.store.proofs.SaidStands.{sizes-of-sound, in-room, said-stands}
+use Rattle.store.proofs.Sound.{sound-means, unsound-fails}
+use Rattle.store.proofs.SaidStands.{sizes-of-sound}
 use Rattle.store.specs.ChangeIn.{changeIn}
-use Rattle.store.proofs.ChangeIn.{Fitting, LeavesSound, fitting-by-parts, change-leaves}
+use Rattle.store.proofs.ChangeIn.{Fitting, LeavesSound, change-leaves}
 use Rattle.removing.specs.RemoveCall.{removeRefusalIn, removeIn}
 
 module _ (m : Memory) (number scope : ℕ) where
@@ -29,11 +29,13 @@ module _ (m : Memory) (number scope : ℕ) where
   remove-was-sound z = remove-unrefused z .judged .memory-right
 
   pub remove-fitting : Fitting m (removeRefusalIn m number scope) (removed (saidProfile m) number)
+  unfolding removeRefusalIn removeRefusal
   remove-fitting =
-      fitting-by-parts m _ _
-      (λ z. sizes-of-sound m (remove-was-sound z))
-      (λ z. removed-stands (saidProfile m) number (said-stands m (remove-was-sound z)))
-      (λ z. (omega (arith, removed-nodes-no-more (saidProfile m) number, in-room m (remove-was-sound z) .1 .nodes-fit), remove-unrefused z .marks-fit))
+      record {
+        sizes = λ z. sizes-of-sound m (remove-was-sound z);
+        fits = λ z. accepted-sound (sizesRight (lengthsIn m)) (sound m) (roomIn m) (saidProfile m) (removing number scope) z
+            (sound-means m .fact (remove-was-sound z) .in-room);
+      }
 
   pub remove-leaves : removeIn m number scope .refusal ≡ 0 → LeavesSound m (removed (saidProfile m) number) (removeIn m number scope .after)
   unfolding removeIn changeIn

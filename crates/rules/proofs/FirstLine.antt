@@ -7,8 +7,11 @@ use mathlib.Core.Bool.{Bool, true, false, cond}
 use mathlib.Core.Logic.{_↔_, _⊎_, inl, inr, ⊎-elim, ⊎-map}
 use mathlib.Core.List.{List, [], _∷_, _++_, map}
 use native.Mathlib.Omega.{arith}
+use lib.Dec.{ltb}
+use borrow.Author.Tests.{ltb-true, leb-true}
+use Rattle.rules.specs.Lists.{all, ascendFrom}
 use Rattle.rules.specs.BoxSaysNo.{TableLine, refusalBy}
-use Rattle.rules.proofs.Means.{Means, Fails, never, passes-or-fails, so-or-not, itself, eq-means}
+use Rattle.rules.proofs.Means.{Means, Fails, never, and-both, passes-or-fails, so-or-not, itself, eq-means}
 use Rattle.rules.proofs.Lists.{In, Some, Each, some-cons, each-cons}
 
 -- the first line decides where it applies ..
@@ -198,12 +201,26 @@ pub refusal-exactly : (ls : List TableLine) → Numbered ls → (n : ℕ) → (r
 refusal-exactly ls o zero = refusal-zero ls o
 refusal-exactly ls o (suc n) = refusal-given ls (suc n) (omega arith)
 
+-- whether a line has the number 0 is seen from the numbers alone
+pub numbered-by-numbers : (ls : List TableLine) → all (ltb 0) (map (λ l. l .refusal) ls) ≡ true → Numbered ls
+numbered-by-numbers [] e = tt
+numbered-by-numbers (l ∷ ls) e =
+    let t = and-both _ _ e in
+    (λ z. omega (arith, ltb-true 0 (l .refusal) (t .0)), numbered-by-numbers ls (t .1))
+
 -- ---- where numbers ascend, "the lowest number that applies is given"
 
 -- the lines' numbers ascend, the first at least c; neighbours may have one number
 abbrev pub Ordered : ℕ → List TableLine → Type 0
 Ordered c [] = Unit {0}
 Ordered c (l ∷ ls) = (c ≤ l .refusal) × Ordered (l .refusal) ls
+
+-- and that is seen from the numbers alone
+pub ordered-by-numbers : (c : ℕ) (ls : List TableLine) → ascendFrom c (map (λ l. l .refusal) ls) ≡ true → Ordered c ls
+ordered-by-numbers c [] e = tt
+ordered-by-numbers c (l ∷ ls) e =
+    let t = and-both _ _ e in
+    (leb-true c (l .refusal) (t .0), ordered-by-numbers (l .refusal) ls (t .1))
 
 -- no number is below the first
 pub ordered-from : (c : ℕ) (ls : List TableLine) → Ordered c ls → Each (λ l. c ≤ l .refusal) ls

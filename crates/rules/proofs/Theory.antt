@@ -20,7 +20,7 @@
 --   OneBand           into an empty profile a right one-key band goes in, and out again, in every room
 --   Lives             a number of no band that has come or gone reads the same; a live band is read as it is
 --   Stretches         edges in no stretch and their marks are the same before and after, for any two ascending lists of nodes; nodes too
---   StretchesOfCalls  so of two standing profiles; a change that leaves all bands but some reaches only its stretches, insert and remove among them
+--   StretchesOfCalls  so of two standing profiles; a change that leaves all bands but some reaches only its stretches, every call among them
 --   MarksRead         a mark is read exactly where it stands, so what is kept outside the stretches is kept in what is read
 --   LevelsStay        a node that stands before and after keeps its level, by the node readout
 --   Alone             a machine's call leaves flags, count and marks met alone at every other machine's keys

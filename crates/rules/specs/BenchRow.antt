@@ -18,7 +18,7 @@ use Rattle.rules.specs.Search.{stepsOf}
 use Rattle.rules.specs.Readouts.{BandRead}
 use Rattle.rules.specs.Room.{Room}
 use Rattle.rules.specs.SoundMemory.{soundIn}
-use Rattle.rules.specs.BoxSaysNo.{emptyOutcome, stabAnswer, bandReadAnswer, edgeReadAnswer, nodeReadAnswer, roomReadAnswer}
+use Rattle.rules.specs.BoxSaysNo.{stabAnswer, bandReadAnswer, edgeReadAnswer, nodeReadAnswer, roomReadAnswer}
 use Rattle.rules.specs.BenchCard.{scanOf}
 use Rattle.rules.specs.Calls.{Call}
 use Rattle.rules.specs.Reach.{answersAlike, stretchOf, reachesOnlyStretches, ofCall}
@@ -59,9 +59,6 @@ pub data Row : Type 0 where
   -- the room readout: nodes and marks in use; or refused
   inUse : Profile → ℕ → ℕ → Row
   noInUse : Profile → ℕ → Row
-  -- the profile is made empty; or that is refused by 1
-  emptied : Profile → Row
-  notEmptied : Profile → Row
   -- the call is accepted, leaves these bands, nodes and so many marks in use, and other bands keep their marks outside its stretches
   accepted : Room → Profile → Call → List Band → List Node → ℕ → Row
   -- the call is refused by the number and leaves the profile as it was
@@ -172,14 +169,6 @@ rowRight (node p k l ns) = nodeIs true p k 0 l ns
 rowRight (noNode sizesRight p k refusal) = nodeIs sizesRight p k refusal 0 []
 rowRight (inUse p n m) = inUseIs true p 0 n m
 rowRight (noInUse p refusal) = inUseIs false p refusal 0 0
-rowRight (emptied p) =
-    eqb (emptyOutcome true p .refusal) 0
-    and sameBands (emptyOutcome true p .after .bands) []
-    and sameNodes (emptyOutcome true p .after .nodes) []
-rowRight (notEmptied p) =
-    eqb (emptyOutcome false p .refusal) 1
-    and sameBands (emptyOutcome false p .after .bands) (p .bands)
-    and sameNodes (emptyOutcome false p .after .nodes) (p .nodes)
 rowRight (accepted room p c bs ns m) =
     eqb (callOf room p c .refusal) 0
     and profileIs room (callOf room p c .after) bs ns m

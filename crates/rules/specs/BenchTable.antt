@@ -9,9 +9,9 @@ use Rattle.rules.specs.NodesLanesEdges.{Node, nodeOf, edgeOf}
 use Rattle.rules.specs.Profile.{profileOf, emptyProfile, hasNumber, hasScope}
 use Rattle.rules.specs.Room.{roomOf}
 use Rattle.rules.specs.BoxSaysNo.{bandFault, stabRefusal}
-use Rattle.rules.specs.Calls.{inserting, removing}
+use Rattle.rules.specs.Calls.{emptying, inserting, removing}
 use Rattle.rules.specs.BenchProfile.{closed, openLow, openHigh, open′, callOf, wide, bench, p9, tall, twins, beside, lifted, middle, high, first, firstOpen, mixed, around, bench260, bench300, nextTo, mapped, remapped}
-use Rattle.rules.specs.BenchRow.{Row, gives, says, held, is, sound, marks, lane, walked, stab, meets, noStab, band, noBand, edge, noEdge, node, noNode, inUse, noInUse, emptied, notEmptied, accepted, refused, runs, near, alike, card}
+use Rattle.rules.specs.BenchRow.{Row, gives, says, held, is, sound, marks, lane, walked, stab, meets, noStab, band, noBand, edge, noEdge, node, noNode, inUse, noInUse, accepted, refused, runs, near, alike, card}
 
 -- The bench profile itself, P1 to P10, and what each leaves.
 abbrev pub benchRows : List Row
@@ -189,8 +189,8 @@ readRows =
 -- Each refusal of each change, on arguments that mostly break a later rule too: the first line that applies is given, which has the lowest number.
 abbrev pub refusalRows : List Row
 refusalRows =
-    emptied bench
-    ∷ notEmptied bench
+    accepted (roomOf 5 19) bench emptying [] [] 0
+    ∷ refused (roomOf 0 16384) bench emptying 1
     ∷ refused (roomOf 0 16384) emptyProfile (inserting (closed 1 65 1 2) 1 1) 1
     ∷ refused (roomOf 2049 16384) emptyProfile (inserting (closed 1 65 1 2) 1 1) 1
     ∷ refused (roomOf 2048 0) emptyProfile (inserting (closed 1 65 1 2) 1 1) 1

@@ -12,7 +12,7 @@ use Rattle.rules.specs.Connectives.{_and_, _or_}
 use Rattle.rules.specs.Lists.{any}
 use Rattle.rules.specs.HallLine.{Band, highestKey, highestBandNumber, house, holdsWholeKey, withinScope}
 use Rattle.rules.specs.NodesLanesEdges.{isLevel, standsAt, levelAt}
-use Rattle.rules.specs.Profile.{Profile, hasNumber, isLive, emptyProfile}
+use Rattle.rules.specs.Profile.{Profile, hasNumber, isLive}
 use Rattle.rules.specs.Marks.{marksInUse}
 use Rattle.rules.specs.Flags.{flagWordCount}
 use Rattle.rules.specs.Search.{Stab, stabOf}
@@ -171,18 +171,6 @@ leaving refusal a = record { refusal = refusal; after = a }
 -- a refused change leaves all as it was
 abbrev pub changed : {A : Type 0} → ℕ → A → A → Change A
 changed refusal before after = leaving refusal (cond (eqb refusal 0) after before)
-
--- making an empty profile, whatever the memory held
-unfoldable pub emptyOutcome : Bool → Profile → Change Profile
-emptyOutcome sizesRight p = changed (emptyRefusal sizesRight) p emptyProfile
-
-unfoldable pub insertOutcome : Bool → Bool → Room → Profile → Band → ℕ → ℕ → Change Profile
-insertOutcome sizesRight sound room p b lowLevel highLevel =
-    changed (insertRefusal sizesRight sound room p b lowLevel highLevel) p (inserted p b lowLevel highLevel)
-
-unfoldable pub removeOutcome : Bool → Bool → Room → Profile → ℕ → ℕ → Change Profile
-removeOutcome sizesRight sound room p number scope =
-    changed (removeRefusal sizesRight sound room p number scope) p (removed p number)
 
 -- stab: 1 (sizes), 4
 abbrev pub stabLines : Bool → ℕ → List TableLine

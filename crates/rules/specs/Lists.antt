@@ -4,7 +4,7 @@ use Prim.Native.Nat.{ℕ, zero, suc, _+_}
 use mathlib.Core.Bool.{Bool, true, false, not, cond}
 use mathlib.Core.List.{List, [], _∷_}
 use mathlib.Core.Option.{Option, none, some}
-use lib.Dec.{ltb, eqb}
+use lib.Dec.{leb, ltb, eqb}
 use Rattle.rules.specs.Connectives.{_and_, _or_, oneIf}
 
 module _ {A : Type 0} where
@@ -74,6 +74,11 @@ sameNumbers (x ∷ xs) (y ∷ ys) = eqb x y and sameNumbers xs ys
 abbrev pub distinct : List ℕ → Bool
 distinct [] = true
 distinct (x ∷ xs) = not (member x xs) and distinct xs
+
+-- the numbers ascend, none below c; neighbours may be the same number
+abbrev pub ascendFrom : ℕ → List ℕ → Bool
+ascendFrom c [] = true
+ascendFrom c (x ∷ xs) = leb c x and ascendFrom x xs
 
 -- how many of the m numbers from a on pass
 abbrev pub countFrom : (ℕ → Bool) → ℕ → ℕ → ℕ

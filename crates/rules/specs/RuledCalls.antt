@@ -1,39 +1,69 @@
--- Every call by the rules: the lines that can refuse it, what it comes to, and the profile after calls, one after the other, in a room. The rules know no
--- memory: whether sizes are right and memory is sound is given as two Bools, and after a list of calls both are taken as so.
+-- Every call by the rules: the lines that can refuse it, the profile after it where none does, and so what it comes to; and the profile after calls, one
+-- after the other, in a room. The rules know no memory: whether sizes are right and memory is sound is given as two Bools, and after a list of calls
+-- both are taken as so.
 -- Assumes nothing.
+use Prim.Native.Nat.{ℕ}
 use mathlib.Core.Bool.{Bool, true}
 use mathlib.Core.List.{List, [], _∷_}
 use lib.Dec.{ltb}
 use Rattle.rules.specs.NodesLanesEdges.{standsAt, levelAt}
-use Rattle.rules.specs.Profile.{Profile, isLive}
+use Rattle.rules.specs.Profile.{Profile, isLive, emptyProfile}
+use Rattle.rules.specs.Changes.{inserted, removed}
 use Rattle.rules.specs.Room.{Room}
-use Rattle.rules.specs.BoxSaysNo.{TableLine, emptyLines, insertLines, removeLines, stabLines, bandReadLines, edgeReadLines, nodeReadLines, roomReadLines, Change, leaving, emptyOutcome, insertOutcome, removeOutcome, stabRefusal, bandReadRefusal, edgeReadRefusal, nodeReadRefusal, roomReadRefusal}
+use Rattle.rules.specs.BoxSaysNo.{TableLine, refusalBy, emptyLines, insertLines, removeLines, stabLines, bandReadLines, edgeReadLines, nodeReadLines, roomReadLines, Change, changed}
 use Rattle.rules.specs.Calls.{Call, emptying, inserting, removing, checking, stabbing, readingBand, readingEdge, readingNode, readingRoom}
 
--- the lines that can refuse a call, in their order; the check says yes or no and is never refused
-abbrev pub callLines : Bool → Bool → Room → Profile → Call → List TableLine
-callLines sizesRight sound room p emptying = emptyLines sizesRight
-callLines sizesRight sound room p (inserting b lowLevel highLevel) = insertLines sizesRight sound room p b lowLevel highLevel
-callLines sizesRight sound room p (removing number scope) = removeLines sizesRight sound room p number scope
-callLines sizesRight sound room p checking = []
-callLines sizesRight sound room p (stabbing key) = stabLines sizesRight key
-callLines sizesRight sound room p (readingBand number) = bandReadLines sizesRight number (isLive number (p .bands))
-callLines sizesRight sound room p (readingEdge key lane) =
-    edgeReadLines sizesRight key (standsAt key (p .nodes)) (ltb lane (levelAt key (p .nodes)))
-callLines sizesRight sound room p (readingNode key) = nodeReadLines sizesRight key (standsAt key (p .nodes))
-callLines sizesRight sound room p readingRoom = roomReadLines sizesRight
+-- what is known where a call is judged: whether sizes are right and memory is sound, its room and its profile; and, for readouts, whether a number is
+-- live, whether a node stands at a key and whether it has a lane
+pub record Known : Type 0 where
+  pub sizesRight : Bool
+  pub sound : Bool
+  pub room : Room
+  pub profile : Profile
+  pub live : ℕ → Bool
+  pub stands : ℕ → Bool
+  pub hasLane : ℕ → ℕ → Bool
 
--- the number that a call answers and the profile after it: a call that only reads leaves all as it was
+-- the lines that can refuse a call, in their order; the check says yes or no and is never refused
+abbrev pub linesBy : Known → Call → List TableLine
+linesBy k emptying = emptyLines (k .sizesRight)
+linesBy k (inserting b lowLevel highLevel) = insertLines (k .sizesRight) (k .sound) (k .room) (k .profile) b lowLevel highLevel
+linesBy k (removing number scope) = removeLines (k .sizesRight) (k .sound) (k .room) (k .profile) number scope
+linesBy k checking = []
+linesBy k (stabbing key) = stabLines (k .sizesRight) key
+linesBy k (readingBand number) = bandReadLines (k .sizesRight) number (k .live number)
+linesBy k (readingEdge key lane) = edgeReadLines (k .sizesRight) key (k .stands key) (k .hasLane key lane)
+linesBy k (readingNode key) = nodeReadLines (k .sizesRight) key (k .stands key)
+linesBy k readingRoom = roomReadLines (k .sizesRight)
+
+-- known of a profile
+abbrev pub knownOf : Bool → Bool → Room → Profile → Known
+knownOf sizesRight sound room p =
+    record {
+      sizesRight = sizesRight;
+      sound = sound;
+      room = room;
+      profile = p;
+      live = λ number. isLive number (p .bands);
+      stands = λ key. standsAt key (p .nodes);
+      hasLane = λ key lane. ltb lane (levelAt key (p .nodes));
+    }
+
+-- the profile after a call that nothing refuses: one that only reads leaves it as it was
+abbrev pub afterAccepted : Profile → Call → Profile
+afterAccepted p emptying = emptyProfile
+afterAccepted p (inserting b lowLevel highLevel) = inserted p b lowLevel highLevel
+afterAccepted p (removing number scope) = removed p number
+afterAccepted p checking = p
+afterAccepted p (stabbing key) = p
+afterAccepted p (readingBand number) = p
+afterAccepted p (readingEdge key lane) = p
+afterAccepted p (readingNode key) = p
+afterAccepted p readingRoom = p
+
+-- the number that a call answers and the profile after it: a refused one leaves all as it was
 abbrev pub callOutcome : Bool → Bool → Room → Profile → Call → Change Profile
-callOutcome sizesRight sound room p emptying = emptyOutcome sizesRight p
-callOutcome sizesRight sound room p (inserting b lowLevel highLevel) = insertOutcome sizesRight sound room p b lowLevel highLevel
-callOutcome sizesRight sound room p (removing number scope) = removeOutcome sizesRight sound room p number scope
-callOutcome sizesRight sound room p checking = leaving 0 p
-callOutcome sizesRight sound room p (stabbing key) = leaving (stabRefusal sizesRight key) p
-callOutcome sizesRight sound room p (readingBand number) = leaving (bandReadRefusal sizesRight p number) p
-callOutcome sizesRight sound room p (readingEdge key lane) = leaving (edgeReadRefusal sizesRight p key lane) p
-callOutcome sizesRight sound room p (readingNode key) = leaving (nodeReadRefusal sizesRight p key) p
-callOutcome sizesRight sound room p readingRoom = leaving (roomReadRefusal sizesRight) p
+callOutcome sizesRight sound room p c = changed (refusalBy (linesBy (knownOf sizesRight sound room p) c)) p (afterAccepted p c)
 
 -- the profile after a call, accepted or refused
 abbrev pub ruledAfterCall : Room → Profile → Call → Profile

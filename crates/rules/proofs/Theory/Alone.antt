@@ -11,7 +11,9 @@ use Rattle.rules.specs.Profile.{Profile}
 use Rattle.rules.specs.Room.{Room}
 use Rattle.rules.specs.Search.{taken, stabOf}
 use Rattle.rules.specs.Changes.{inserted, removed}
-use Rattle.rules.specs.BoxSaysNo.{changed, insertRefusal, removeRefusal, insertOutcome, removeOutcome}
+use Rattle.rules.specs.BoxSaysNo.{changed, removeRefusal}
+use Rattle.rules.specs.Calls.{inserting, removing}
+use Rattle.rules.specs.RuledCalls.{callOutcome}
 use Rattle.rules.specs.Reach.{OthersAlike}
 use Rattle.rules.proofs.Means.{never, passes-or-fails, same-means}
 use Rattle.rules.proofs.Lists.{In, Each, member-means}
@@ -24,7 +26,7 @@ use Rattle.rules.proofs.SoundMemory.{Standing}
 use Rattle.rules.proofs.Reach.{answers-alike-means}
 use Rattle.rules.proofs.Theory.MarkedOver.{standing-nodes-right}
 use Rattle.rules.proofs.Theory.MetOnce.{HeldBy, taken-are-those-holding, met-is-count}
-use Rattle.rules.proofs.Theory.StandingKept.{insert-stands, removed-stands}
+use Rattle.rules.proofs.Theory.StandingKept.{call-owed}
 
 -- a machine's band holds no key of another machine
 pub holds-no-other : (b : Band) → BandRight b → b .scope < machines → (n : ℕ) → (n ≡ b .scope → ⊥) → (k : ℕ) → ownKey n k ≡ true
@@ -79,25 +81,25 @@ others-alike m p q before after only l n below off k own =
 
 -- a change, accepted or refused, leaves flags, count and marks met the same at every key of every machine but m, where, if nothing refuses it, the
 -- profile after it stands and only bands of scope m come or go
-pub change-alone : (m refusal : ℕ) (p q : Profile) → Standing p → (refusal ≡ 0 → Standing q × DifferOnlyIn m p q)
+pub ruled-change-alone : (m refusal : ℕ) (p q : Profile) → Standing p → (refusal ≡ 0 → Standing q × DifferOnlyIn m p q)
     → OthersAlike m p (changed refusal p q .after)
-change-alone m refusal p q s after =
+ruled-change-alone m refusal p q s after =
     change-keeps (OthersAlike m p) refusal p q (others-alike m p p s s (λ b off. Iff·rfl)) (λ z. others-alike m p q s (after z .0) (after z .1))
 
+-- by the rules, which know no memory (of memory: Alone in `demands`):
 module _ (sizesRight sound : Bool) (room : Room) (p : Profile) (s : Standing p) where
-  -- so an insert of scope below 64
-  pub insert-alone : (b : Band) (lo hi : ℕ) → OthersAlike (b .scope) p (insertOutcome sizesRight sound room p b lo hi .after)
-  unfolding insertOutcome
-  insert-alone b lo hi =
-      change-alone (b .scope) (insertRefusal sizesRight sound room p b lo hi) p (inserted p b lo hi) s
-      (λ z. (insert-stands sizesRight sound room p b lo hi s z, insert-keeps-others p b lo hi (λ c. c .scope ≡ b .scope) refl))
+  -- an insert of scope below 64 does
+  pub ruled-insert-alone : (b : Band) (lo hi : ℕ) → OthersAlike (b .scope) p (callOutcome sizesRight sound room p (inserting b lo hi) .after)
+  ruled-insert-alone b lo hi =
+      ruled-change-alone (b .scope) _ p (inserted p b lo hi) s
+      (λ z. (call-owed sizesRight sound room p (inserting b lo hi) z .stands s, insert-keeps-others p b lo hi (λ c. c .scope ≡ b .scope) refl))
 
   -- and a remove
-  pub remove-alone : (number scope : ℕ) → OthersAlike scope p (removeOutcome sizesRight sound room p number scope .after)
-  unfolding removeOutcome
-  remove-alone number scope =
-      change-alone scope (removeRefusal sizesRight sound room p number scope) p (removed p number) s
+  pub ruled-remove-alone : (number scope : ℕ) → OthersAlike scope p (callOutcome sizesRight sound room p (removing number scope) .after)
+  unfolding removeRefusal
+  ruled-remove-alone number scope =
+      ruled-change-alone scope _ p (removed p number) s
       (λ z. (
-        removed-stands p number s,
+        call-owed sizesRight sound room p (removing number scope) z .stands s,
         remove-keeps-others p number (λ c. c .scope ≡ scope) (remove-accepted sizesRight sound (not-sound-fails sizesRight sound) room p number scope .0 z .judged .scope-same),
       ))

@@ -1,11 +1,10 @@
 -- Standing is kept: the profile after an accepted insert or remove is standing again, so that every call, accepted or refused,
--- leaves a standing profile standing and a sound one sound in its room. Of any change it is said once what this asks.
+-- leaves a standing profile standing and a sound one sound in its room. What an accepted call owes is said once, with one case for each call (`call-owed`).
 -- Assumes nothing.
 use Prim.Native.Nat.{ℕ, _≤_}
 use mathlib.Core.Path.{_≡_, refl, ap}
 use mathlib.Core.Bool.{Bool, true}
-use mathlib.Core.Logic.{inl, inr, ⊎-elim, ⊎-map}
-use mathlib.Core.List.{List, [], _∷_}
+use mathlib.Core.Logic.{Iff·rfl, inl, inr, ⊎-elim, ⊎-map}
 use native.Mathlib.Omega.{arith}
 use lib.ListN.{length}
 use Rattle.rules.specs.HallLine.{Band}
@@ -14,16 +13,18 @@ use Rattle.rules.specs.Profile.{Profile, emptyProfile, hasNumber}
 use Rattle.rules.specs.Marks.{marksInUse}
 use Rattle.rules.specs.Changes.{inserted, nodesAtEnds, withoutWhere, removed}
 use Rattle.rules.specs.Room.{Room, roomInRange}
-use Rattle.rules.specs.BoxSaysNo.{changed, emptyRefusal, insertRefusal, removeRefusal, emptyOutcome, insertOutcome, removeOutcome}
-use Rattle.rules.specs.SoundMemory.{standing, soundIn}
+use Rattle.rules.specs.BoxSaysNo.{insertRefusal, removeRefusal}
+use Rattle.rules.specs.SoundMemory.{soundIn}
 use Rattle.rules.specs.Calls.{Call, emptying, inserting, removing, checking, stabbing, readingBand, readingEdge, readingNode, readingRoom}
-use Rattle.rules.specs.RuledCalls.{callOutcome, ruledAfterCall, ruledAfterCalls}
+use Rattle.rules.specs.RuledCalls.{afterAccepted, callOutcome}
+use Rattle.rules.specs.Reach.{ofCall}
 use Rattle.rules.specs.Computes.{computes}
 use Rattle.rules.proofs.Means.{itself}
 use Rattle.rules.proofs.Lists.{In, Each, keep-all}
 use Rattle.rules.proofs.NodesLanesEdges.{Level, NodeAt, EndOf, is-end-of-some-means}
-use Rattle.rules.proofs.Changes.{at-with-ends, in-with-ends, with-ends-ascend, in-inserted-bands, inserted-bands-ascend, in-bands-left, in-nodes-left, bands-left-ascend, nodes-left-ascend, removed-nodes-no-more}
-use Rattle.rules.proofs.BoxSaysNo.{room-in-range-means, not-sound-fails, BandRight, empty-accepted, insert-accepted, remove-accepted, accepted-changes, change-keeps}
+use Rattle.rules.proofs.Profile.{SameBut, has-number-means}
+use Rattle.rules.proofs.Changes.{at-with-ends, in-with-ends, with-ends-ascend, in-inserted-bands, inserted-bands-ascend, insert-keeps-others, in-bands-left, in-nodes-left, bands-left-ascend, nodes-left-ascend, removed-nodes-no-more, remove-keeps-others}
+use Rattle.rules.proofs.BoxSaysNo.{room-in-range-means, not-sound-fails, BandRight, insert-accepted, remove-accepted, change-keeps}
 use Rattle.rules.proofs.SoundMemory.{Standing, standing-means, sound-in-means}
 
 -- all nodes of a standing profile are at ends
@@ -92,28 +93,6 @@ pub removed-stands : (p : Profile) (number : ℕ) → Standing p → Standing (r
 unfolding removed
 removed-stands p number = without-stands (hasNumber number) p
 
--- ---- any change, accepted or refused
-
-module _ (refusal : ℕ) (p q : Profile) where
-  -- where the profile after it stands if nothing refuses it, a change leaves a standing profile standing ..
-  pub change-keeps-standing : Standing p → (refusal ≡ 0 → Standing q) → Standing (changed refusal p q .after)
-  change-keeps-standing = change-keeps Standing refusal p q
-
-  -- .. and where that profile also fits the room, a sound one sound
-  pub change-keeps-sound : (room : Room) → soundIn room p ≡ true
-      → (refusal ≡ 0 → Standing q × (length (q .nodes) ≤ room .nodes) × (marksInUse q ≤ room .marks))
-      → soundIn room (changed refusal p q .after) ≡ true
-  change-keeps-sound room e after = change-keeps (λ r. soundIn room r ≡ true) refusal p q e sound-after
-    where
-      sound-after : refusal ≡ 0 → soundIn room q ≡ true
-      sound-after z =
-          let was = sound-in-means room p .fact e .1 in
-          let is = after z in
-          sound-in-means room q .test
-          (is .0, record { node-room = was .node-room; mark-room = was .mark-room; nodes-fit = is .1; marks-fit = is .2 })
-
--- ---- each call
-
 -- an empty profile is sound in every room that is in range
 pub empty-sound : (room : Room) → roomInRange room ≡ true → soundIn room emptyProfile ≡ true
 unfolding marksInUse
@@ -122,94 +101,80 @@ empty-sound room e =
     sound-in-means room emptyProfile .test
     (empty-stands, record { node-room = r .0; mark-room = r .1; nodes-fit = omega arith; marks-fit = omega arith })
 
-module _ (sizesRight : Bool) (p : Profile) where
-  -- making an empty profile leaves a standing profile standing ..
-  pub empty-keeps-standing : Standing p → Standing (emptyOutcome sizesRight p .after)
-  unfolding emptyOutcome
-  empty-keeps-standing s = change-keeps-standing (emptyRefusal sizesRight) p emptyProfile s (λ z. empty-stands)
+-- ---- what a call owes
 
-  module _ (room : Room) where
-    -- .. and a sound one sound ..
-    pub empty-keeps-sound : soundIn room p ≡ true → soundIn room (emptyOutcome sizesRight p .after) ≡ true
-    unfolding emptyOutcome marksInUse
-    empty-keeps-sound e = change-keeps-sound (emptyRefusal sizesRight) p emptyProfile room e (λ z. (empty-stands, omega arith, omega arith))
+-- the profile q after an accepted call on p: it stands where p does and keeps within the room where p does, and only the call's own bands have come
+-- or gone
+pub record Owed (room : Room) (own : Band → Bool) (p q : Profile) : Type 0 where
+  pub stands : Standing p → Standing q
+  pub nodes-fit : length (p .nodes) ≤ room .nodes → length (q .nodes) ≤ room .nodes
+  pub marks-fit : marksInUse p ≤ room .marks → marksInUse q ≤ room .marks
+  pub others-stay : SameBut (λ b. own b ≡ true) p q
 
-    -- .. and, where sizes are right, a sound one whatever was there
-    pub empty-makes-sound : sizesRight ≡ true → roomInRange room ≡ true → soundIn room (emptyOutcome sizesRight p .after) ≡ true
-    unfolding emptyOutcome
-    empty-makes-sound t r =
-        rw (accepted-changes (emptyRefusal sizesRight) p emptyProfile (empty-accepted sizesRight .1 t)) (empty-sound room r)
+-- a call that only reads owes nothing
+unchanged : (room : Room) (own : Band → Bool) (p : Profile) → Owed room own p p
+unchanged room own p = record { stands = λ s. s; nodes-fit = λ h. h; marks-fit = λ h. h; others-stay = λ b off. Iff·rfl }
 
 module _ (sizesRight sound : Bool) (room : Room) (p : Profile) where
-  module _ (b : Band) (lo hi : ℕ) where
-    -- the profile after an insert that nothing refuses stands
-    pub insert-stands : Standing p → insertRefusal sizesRight sound room p b lo hi ≡ 0 → Standing (inserted p b lo hi)
-    insert-stands s z =
-        let j = insert-accepted sizesRight sound (not-sound-fails sizesRight sound) room p b lo hi .0 z .judged in
-        inserted-stands p b lo hi s (j .band-right) (j .levels-right .0) (j .levels-right .1) (j .number-free)
+  -- nodes and marks fit by 11 and 12
+  insert-owed : (b : Band) (lo hi : ℕ) → insertRefusal sizesRight sound room p b lo hi ≡ 0
+      → Owed room (hasNumber (b .number)) p (inserted p b lo hi)
+  insert-owed b lo hi z =
+      let a = insert-accepted sizesRight sound (not-sound-fails sizesRight sound) room p b lo hi .0 z in
+      let j = a .judged in
+      record {
+        stands = λ s. inserted-stands p b lo hi s (j .band-right) (j .levels-right .0) (j .levels-right .1) (j .number-free);
+        nodes-fit = λ h. a .nodes-fit;
+        marks-fit = λ h. a .marks-fit;
+        others-stay = insert-keeps-others p b lo hi (λ c. hasNumber (b .number) c ≡ true) (has-number-means (b .number) b .test refl);
+      }
 
-    -- an insert leaves a standing profile standing ..
-    pub insert-keeps-standing : Standing p → Standing (insertOutcome sizesRight sound room p b lo hi .after)
-    unfolding insertOutcome
-    insert-keeps-standing s =
-        change-keeps-standing (insertRefusal sizesRight sound room p b lo hi) p (inserted p b lo hi) s (insert-stands s)
+  -- nodes fit since they are no more than before, marks by 12
+  remove-owed : (number scope : ℕ) → removeRefusal sizesRight sound room p number scope ≡ 0 → Owed room (hasNumber number) p (removed p number)
+  remove-owed number scope z =
+      record {
+        stands = removed-stands p number;
+        nodes-fit = λ h. omega (arith, removed-nodes-no-more p number);
+        marks-fit = λ h. remove-accepted sizesRight sound (not-sound-fails sizesRight sound) room p number scope .0 z .marks-fit;
+        others-stay = remove-keeps-others p number (λ c. hasNumber number c ≡ true) (λ c i e. has-number-means number c .test e);
+      }
 
-    -- .. and a sound one sound: nodes and marks fit by 11 and 12
-    pub insert-keeps-sound : soundIn room p ≡ true → soundIn room (insertOutcome sizesRight sound room p b lo hi .after) ≡ true
-    unfolding insertOutcome
-    insert-keeps-sound e =
-        change-keeps-sound (insertRefusal sizesRight sound room p b lo hi) p (inserted p b lo hi) room e
-        (λ z. let t = insert-accepted sizesRight sound (not-sound-fails sizesRight sound) room p b lo hi .0 z in
-        (insert-stands (sound-in-means room p .fact e .0) z, t .nodes-fit, t .marks-fit))
+  -- every call that nothing refuses: the one case for each call, from which the laws over all calls follow
+  pub call-owed : (c : Call) → callOutcome sizesRight sound room p c .refusal ≡ 0 → Owed room (ofCall c) p (afterAccepted p c)
+  unfolding insertRefusal removeRefusal marksInUse
+  call-owed emptying z =
+      record { stands = λ s. empty-stands; nodes-fit = λ h. omega arith; marks-fit = λ h. omega arith; others-stay = λ b off. absurd (off refl) }
+  call-owed (inserting b lo hi) z = insert-owed b lo hi z
+  call-owed (removing number scope) z = remove-owed number scope z
+  call-owed checking z = unchanged room _ p
+  call-owed (stabbing key) z = unchanged room _ p
+  call-owed (readingBand number) z = unchanged room _ p
+  call-owed (readingEdge key lane) z = unchanged room _ p
+  call-owed (readingNode key) z = unchanged room _ p
+  call-owed readingRoom z = unchanged room _ p
 
-  module _ (number scope : ℕ) where
-    -- a remove leaves a standing profile standing ..
-    pub remove-keeps-standing : Standing p → Standing (removeOutcome sizesRight sound room p number scope .after)
-    unfolding removeOutcome
-    remove-keeps-standing s =
-        change-keeps-standing (removeRefusal sizesRight sound room p number scope) p (removed p number) s (λ z. removed-stands p number s)
+  -- ---- every call, accepted or refused
 
-    -- .. and a sound one sound: nodes fit since they are no more than before, marks by 12
-    pub remove-keeps-sound : soundIn room p ≡ true → soundIn room (removeOutcome sizesRight sound room p number scope .after) ≡ true
-    unfolding removeOutcome
-    remove-keeps-sound e =
+  module _ (c : Call) where
+    -- the profile after a call that nothing refuses is sound where the one before it was
+    pub accepted-sound : callOutcome sizesRight sound room p c .refusal ≡ 0 → soundIn room p ≡ true → soundIn room (afterAccepted p c) ≡ true
+    accepted-sound z e =
         let was = sound-in-means room p .fact e in
-        change-keeps-sound (removeRefusal sizesRight sound room p number scope) p (removed p number) room e
-        (λ z. (
-          removed-stands p number (was .0),
-          omega (arith, removed-nodes-no-more p number, was .1 .nodes-fit),
-          remove-accepted sizesRight sound (not-sound-fails sizesRight sound) room p number scope .0 z .marks-fit,
-        ))
+        let owed = call-owed c z in
+        sound-in-means room (afterAccepted p c) .test (
+          owed .stands (was .0),
+          record {
+            node-room = was .1 .node-room;
+            mark-room = was .1 .mark-room;
+            nodes-fit = owed .nodes-fit (was .1 .nodes-fit);
+            marks-fit = owed .marks-fit (was .1 .marks-fit);
+          },
+        )
 
-  -- ---- every call
+    -- every call leaves a standing profile standing ..
+    pub call-keeps-standing : Standing p → Standing (callOutcome sizesRight sound room p c .after)
+    call-keeps-standing s = change-keeps Standing _ p (afterAccepted p c) s (λ z. call-owed c z .stands s)
 
-  pub call-keeps-standing : Standing p → (c : Call) → Standing (callOutcome sizesRight sound room p c .after)
-  call-keeps-standing s emptying = empty-keeps-standing sizesRight p s
-  call-keeps-standing s (inserting b lo hi) = insert-keeps-standing b lo hi s
-  call-keeps-standing s (removing number scope) = remove-keeps-standing number scope s
-  call-keeps-standing s checking = s
-  call-keeps-standing s (stabbing k) = s
-  call-keeps-standing s (readingBand number) = s
-  call-keeps-standing s (readingEdge k lane) = s
-  call-keeps-standing s (readingNode k) = s
-  call-keeps-standing s readingRoom = s
-
-  -- .. by the test too
-  pub call-keeps-standing-test : standing p ≡ true → (c : Call) → standing (callOutcome sizesRight sound room p c .after) ≡ true
-  call-keeps-standing-test e c = standing-means _ .test (call-keeps-standing (standing-means p .fact e) c)
-
-  pub call-keeps-sound : soundIn room p ≡ true → (c : Call) → soundIn room (callOutcome sizesRight sound room p c .after) ≡ true
-  call-keeps-sound e emptying = empty-keeps-sound sizesRight p room e
-  call-keeps-sound e (inserting b lo hi) = insert-keeps-sound b lo hi e
-  call-keeps-sound e (removing number scope) = remove-keeps-sound number scope e
-  call-keeps-sound e checking = e
-  call-keeps-sound e (stabbing k) = e
-  call-keeps-sound e (readingBand number) = e
-  call-keeps-sound e (readingEdge k lane) = e
-  call-keeps-sound e (readingNode k) = e
-  call-keeps-sound e readingRoom = e
-
--- so does a list of calls, one after the other
-pub calls-keep-sound : (room : Room) (p : Profile) → soundIn room p ≡ true → (cs : List Call) → soundIn room (ruledAfterCalls room p cs) ≡ true
-calls-keep-sound room p e [] = e
-calls-keep-sound room p e (c ∷ cs) = calls-keep-sound room (ruledAfterCall room p c) (call-keeps-sound true true room p e c) cs
+    -- .. and a sound one sound
+    pub call-keeps-sound : soundIn room p ≡ true → soundIn room (callOutcome sizesRight sound room p c .after) ≡ true
+    call-keeps-sound e = change-keeps (λ q. soundIn room q ≡ true) _ p (afterAccepted p c) e (λ z. accepted-sound z e)

@@ -1,31 +1,29 @@
 -- "What one call can reach", the stretches, for any two standing profiles: a band that is live in both keeps every mark outside the stretches
--- and gains none there. A change that leaves all bands but those that pass a test reaches only stretches; insert and remove are such.
+-- and gains none there. A change that leaves all bands but those that pass a test reaches only stretches, and every call is such, with the test for its own.
 -- Assumes nothing.
 use Prim.Native.Nat.{ℕ, _≤_}
-use mathlib.Core.Path.{_≡_, refl, sym, subst}
-use mathlib.Core.Bool.{Bool, true, false}
+use mathlib.Core.Path.{_≡_, sym, subst}
+use mathlib.Core.Bool.{Bool, true}
 use mathlib.Core.Logic.{Iff·rfl, ⊎-elim, ⊎-map}
 use mathlib.Core.List.{List}
 use native.Mathlib.Omega.{arith}
 use Rattle.rules.specs.HallLine.{Band, highestKey}
 use Rattle.rules.specs.NodesLanesEdges.{Node, Edge}
-use Rattle.rules.specs.Profile.{Profile, emptyProfile, hasNumber}
+use Rattle.rules.specs.Profile.{Profile}
 use Rattle.rules.specs.Marks.{markedOnEdge, markedOnNode}
-use Rattle.rules.specs.Changes.{inserted, removed}
 use Rattle.rules.specs.Room.{Room}
-use Rattle.rules.specs.BoxSaysNo.{changed, emptyRefusal, insertRefusal, removeRefusal, emptyOutcome, insertOutcome, removeOutcome}
-use Rattle.rules.specs.Calls.{Call, emptying, inserting, removing, checking, stabbing, readingBand, readingEdge, readingNode, readingRoom}
-use Rattle.rules.specs.RuledCalls.{callOutcome}
+use Rattle.rules.specs.BoxSaysNo.{changed}
+use Rattle.rules.specs.Calls.{Call}
+use Rattle.rules.specs.RuledCalls.{afterAccepted, callOutcome}
 use Rattle.rules.specs.Reach.{presentBoth, madeOrDropped, othersKeepMarks, reachesOnlyStretches, ofCall}
 use Rattle.rules.proofs.Means.{Means, so-or-not, itself}
 use Rattle.rules.proofs.Lists.{In, Each, ascends-once}
 use Rattle.rules.proofs.NodesLanesEdges.{NodeAt}
-use Rattle.rules.proofs.Profile.{SameBut, NoneBy, has-number-means}
+use Rattle.rules.proofs.Profile.{SameBut, NoneBy}
 use Rattle.rules.proofs.Marks.{node-mark-rule, in-marked-on-edge, in-marked-on-node}
-use Rattle.rules.proofs.Changes.{insert-keeps-others, remove-keeps-others}
 use Rattle.rules.proofs.BoxSaysNo.{change-keeps}
 use Rattle.rules.proofs.SoundMemory.{Standing}
-use Rattle.rules.proofs.Theory.StandingKept.{empty-stands, insert-stands, removed-stands}
+use Rattle.rules.proofs.Theory.StandingKept.{call-owed}
 use Rattle.rules.proofs.Reach.{KeepsMarks, others-keep-marks-means}
 use Rattle.rules.proofs.Theory.Stretches.{Side, sides, Clear, ClearAt, clear-edge-stays, edge-mark-stays, node-mark-stays, held-node-stays}
 
@@ -118,37 +116,9 @@ module _ {own : Band → Bool} {Own : Band → Type 0} (m : (b : Band) → Means
       (only-stretches-reached p p s s (λ b off. Iff·rfl))
       (λ z. only-stretches-reached p q s (after z .0) (after z .1))
 
-module _ (sizesRight sound : Bool) (room : Room) (p : Profile) (s : Standing p) where
-  -- an insert does ..
-  pub insert-reaches-only-stretches : (b : Band) (lo hi : ℕ)
-      → reachesOnlyStretches (hasNumber (b .number)) p (insertOutcome sizesRight sound room p b lo hi .after) ≡ true
-  unfolding insertOutcome
-  insert-reaches-only-stretches b lo hi =
-      change-reaches-only-stretches (has-number-means (b .number)) (insertRefusal sizesRight sound room p b lo hi) p (inserted p b lo hi) s
-      (λ z. (insert-stands sizesRight sound room p b lo hi s z, insert-keeps-others p b lo hi (λ c. c .number ≡ b .number) refl))
-
-  -- .. a remove does ..
-  pub remove-reaches-only-stretches : (number scope : ℕ)
-      → reachesOnlyStretches (hasNumber number) p (removeOutcome sizesRight sound room p number scope .after) ≡ true
-  unfolding removeOutcome
-  remove-reaches-only-stretches number scope =
-      change-reaches-only-stretches (has-number-means number) (removeRefusal sizesRight sound room p number scope) p (removed p number) s
-      (λ z. (removed-stands p number s, remove-keeps-others p number (λ c. c .number ≡ number) (λ c i e. e)))
-
-  -- .. a call that only reads reaches nothing ..
-  nothing-reached : reachesOnlyStretches (λ b. false) p p ≡ true
-  nothing-reached = only-stretches-reached (λ b. itself false) p p s s (λ b off. Iff·rfl)
-
-  -- .. and so every call, with the bands that are its own
-  pub call-reaches-only-stretches : (c : Call) → reachesOnlyStretches (ofCall c) p (callOutcome sizesRight sound room p c .after) ≡ true
-  unfolding emptyOutcome
-  call-reaches-only-stretches emptying =
-      change-reaches-only-stretches (λ b. itself true) (emptyRefusal sizesRight) p emptyProfile s (λ z. (empty-stands, λ b off. absurd (off refl)))
-  call-reaches-only-stretches (inserting b lo hi) = insert-reaches-only-stretches b lo hi
-  call-reaches-only-stretches (removing number scope) = remove-reaches-only-stretches number scope
-  call-reaches-only-stretches checking = nothing-reached
-  call-reaches-only-stretches (stabbing k) = nothing-reached
-  call-reaches-only-stretches (readingBand number) = nothing-reached
-  call-reaches-only-stretches (readingEdge k lane) = nothing-reached
-  call-reaches-only-stretches (readingNode k) = nothing-reached
-  call-reaches-only-stretches readingRoom = nothing-reached
+-- .. and so does every call, with the bands that are its own: one that only reads has none, and reaches nothing
+pub call-reaches-only-stretches : (sizesRight sound : Bool) (room : Room) (p : Profile) → Standing p
+    → (c : Call) → reachesOnlyStretches (ofCall c) p (callOutcome sizesRight sound room p c .after) ≡ true
+call-reaches-only-stretches sizesRight sound room p s c =
+    change-reaches-only-stretches (λ b. itself (ofCall c b)) (callOutcome sizesRight sound room p c .refusal) p (afterAccepted p c) s
+    (λ z. let owed = call-owed sizesRight sound room p c z in (owed .stands s, owed .others-stay))
