@@ -1,6 +1,6 @@
 -- "It is the level given in the call that made the node and stays while the node stands, whatever later calls give", by the node readout: a node that
--- stands before and after a change that keeps levels, as insert and remove do, keeps its level; one that an insert makes has the level given for its
--- end, a one-key band's that of the low end.
+-- stands before and after a change that keeps levels, as insert and remove do, keeps its level; each node of the profile after an accepted change stands,
+-- with its level, and so one that an insert makes has the level given for its end, a one-key band's that of the low end.
 -- Assumes nothing.
 use Prim.Native.Nat.{ℕ}
 use mathlib.Core.Path.{_≡_, refl, sym, _∙_, ap, subst}
@@ -11,11 +11,11 @@ use Rattle.rules.specs.NodesLanesEdges.{Node, nodeOf}
 use Rattle.rules.specs.Profile.{Profile}
 use Rattle.rules.specs.Changes.{inserted, removed}
 use Rattle.rules.specs.BoxSaysNo.{nodeReadAnswer}
+use Rattle.rules.proofs.Lists.{Each}
 use Rattle.rules.proofs.NodesLanesEdges.{NoNodeAt}
 use Rattle.rules.proofs.BoxSaysNo.{node-gives-13}
 use Rattle.rules.proofs.Changes.{MadeAtEnd}
-use Rattle.rules.proofs.SoundMemory.{Standing}
-use Rattle.rules.proofs.Theory.LevelsStay.{LevelsStay, levels-read-same, insert-levels-stay, made-level-read, remove-levels-stay}
+use Rattle.rules.proofs.Theory.LevelsStay.{LevelsStay, levels-read-same, insert-levels-stay, made-stands, remove-levels-stay}
 use Rattle.store.specs.Memory.{Memory}
 use Rattle.store.specs.SaidProfile.{saidProfile}
 use Rattle.store.specs.Sound.{sound}
@@ -24,9 +24,10 @@ use Rattle.store.proofs.SaidStands.{said-stands}
 use Rattle.store.proofs.ChangeIn.{Fitting, change-leaves-so, change-leaves}
 use Rattle.asking.specs.NodeCall.{nodeIn}
 use Rattle.asking.proofs.OnSound.{node-on-sound}
+use Rattle.asking.proofs.NodeExact.{node-exact}
 use Rattle.inserting.specs.InsertCall.{insertRefusalIn, insertIn}
 use Rattle.removing.specs.RemoveCall.{removeRefusalIn, removeIn}
-use Rattle.inserting.proofs.Accepted.{insert-fitting, insert-was-sound, insert-leaves}
+use Rattle.inserting.proofs.Accepted.{insert-fitting, insert-was-sound}
 use Rattle.removing.proofs.Accepted.{remove-fitting, remove-was-sound}
 
 -- ---- a node that stands before and after
@@ -34,6 +35,10 @@ use Rattle.removing.proofs.Accepted.{remove-fitting, remove-was-sound}
 -- at each key where a node stands in the one memory and in the other it has the same level
 abbrev pub SameLevels : Memory → Memory → Type 0
 SameLevels m w = (k : ℕ) → nodeIn m k .refusal ≡ 0 → nodeIn w k .refusal ≡ 0 → nodeIn w k .read .level ≡ nodeIn m k .read .level
+
+-- a node stands at the key, with that level
+abbrev pub StandsWith : ℕ → Memory → ℕ → Type 0
+StandsWith level w k = (nodeIn w k .refusal ≡ 0) × (nodeIn w k .read .level ≡ level)
 
 -- every change of sound memory that keeps the level of each node at whose key one stands before and after it
 pub change-level-stays : (m : Memory) (refusal : ℕ) (after : Profile) → Fitting m refusal after → (refusal ≡ 0 → sound m ≡ true)
@@ -60,33 +65,34 @@ module _ (m : Memory) where
       change-level-stays m (removeRefusalIn m number scope) (removed (saidProfile m) number) (remove-fitting m number scope) (remove-was-sound m number scope)
       (λ z. remove-levels-stay (saidProfile m) number (said-stands m (remove-was-sound m number scope z) .keys-ascend))
 
-  -- ---- a node that an insert makes
+-- ---- a node of the profile after it
 
-  module _ (b : Band) (lo hi : ℕ) (accepted : insertIn m b lo hi .refusal ≡ 0) where
-    was-sound : sound m ≡ true
-    unfolding insertIn changeIn
-    was-sound = insert-was-sound m b lo hi accepted
+-- after an accepted change each node of the profile after it stands, with its level
+pub change-nodes-stand : (m : Memory) (refusal : ℕ) (after : Profile) → Fitting m refusal after → refusal ≡ 0
+    → Each (λ n. StandsWith (n .level) (changeIn m refusal after .after) (n .key)) (after .nodes)
+change-nodes-stand m refusal after owed z n i =
+    let left = change-leaves m refusal after owed z in
+    let e = node-exact (changeIn m refusal after .after) (left .is-sound) n (rw (left .says) i) in
+    (e .0, e .1 .level)
 
-    -- a node that is made for an end
-    made : (n : Node) → MadeAtEnd b lo hi (saidProfile m .nodes) n
-        → (nodeIn (insertIn m b lo hi .after) (n .key) .refusal ≡ 0) × (nodeIn (insertIn m b lo hi .after) (n .key) .read .level ≡ n .level)
-    made n e =
-        let w = insertIn m b lo hi .after in
-        let left = insert-leaves m b lo hi accepted in
-        rw (node-on-sound w (left .is-sound) (n .key), left .says)
-        (made-level-read (saidProfile m) b lo hi (subst Standing (left .says) (said-stands w (left .is-sound))) n e)
+-- so one that an insert makes has the level given
+module _ (m : Memory) (b : Band) (lo hi : ℕ) (accepted : insertIn m b lo hi .refusal ≡ 0) where
+  made : (n : Node) → MadeAtEnd b lo hi (saidProfile m .nodes) n → StandsWith (n .level) (insertIn m b lo hi .after) (n .key)
+  unfolding insertIn changeIn
+  made n e =
+      change-nodes-stand m (insertRefusalIn m b lo hi) (inserted (saidProfile m) b lo hi) (insert-fitting m b lo hi) accepted n
+      (made-stands (saidProfile m) b lo hi n e)
 
-    -- the readout is refused by 13 where none stands
-    none-there : (k : ℕ) → nodeIn m k .refusal ≡ 13 → NoNodeAt k (saidProfile m .nodes)
-    unfolding nodeReadAnswer
-    none-there k e = node-gives-13 true (saidProfile m) k .0 (sym (ap (λ a. a .refusal) (node-on-sound m was-sound k)) ∙ e) .1 .1
+  -- the readout is refused by 13 where none stands
+  none-there : (k : ℕ) → nodeIn m k .refusal ≡ 13 → NoNodeAt k (saidProfile m .nodes)
+  unfolding insertIn changeIn nodeReadAnswer
+  none-there k e =
+      node-gives-13 true (saidProfile m) k .0 (sym (ap (λ a. a .refusal) (node-on-sound m (insert-was-sound m b lo hi accepted) k)) ∙ e) .1 .1
 
-    -- where no node stood at the low end, one stands with the low end's level: a one-key band's too
-    pub low-level-given : nodeIn m (b .low) .refusal ≡ 13
-        → (nodeIn (insertIn m b lo hi .after) (b .low) .refusal ≡ 0) × (nodeIn (insertIn m b lo hi .after) (b .low) .read .level ≡ lo)
-    low-level-given e = made (nodeOf (b .low) lo) (inl (refl, none-there (b .low) e))
+  -- where no node stood at the low end, one stands with the low end's level: a one-key band's too
+  pub low-level-given : nodeIn m (b .low) .refusal ≡ 13 → StandsWith lo (insertIn m b lo hi .after) (b .low)
+  low-level-given e = made (nodeOf (b .low) lo) (inl (refl, none-there (b .low) e))
 
-    -- and where none stood at a high end that is another key, one with the high end's
-    pub high-level-given : (b .high ≡ b .low → ⊥) → nodeIn m (b .high) .refusal ≡ 13
-        → (nodeIn (insertIn m b lo hi .after) (b .high) .refusal ≡ 0) × (nodeIn (insertIn m b lo hi .after) (b .high) .read .level ≡ hi)
-    high-level-given off e = made (nodeOf (b .high) hi) (inr (refl, off, none-there (b .high) e))
+  -- and where none stood at a high end that is another key, one with the high end's
+  pub high-level-given : (b .high ≡ b .low → ⊥) → nodeIn m (b .high) .refusal ≡ 13 → StandsWith hi (insertIn m b lo hi .after) (b .high)
+  high-level-given off e = made (nodeOf (b .high) hi) (inr (refl, off, none-there (b .high) e))

@@ -1,5 +1,5 @@
--- "What is built", the profile after an insert and after a remove: who stands in its bands and nodes, that both stay in order,
--- that a node that stood keeps its level and a made one has the level given, and that no other band comes or goes.
+-- "What is built", the profile after an insert and after a remove: who stands in its bands and nodes, that both stay in order, and that no other band
+-- comes or goes.
 -- Assumes nothing.
 use Prim.Native.Nat.{ℕ, _≤_}
 use mathlib.Core.Path.{_≡_, refl, sym, subst}
@@ -9,12 +9,12 @@ use mathlib.Core.List.{List}
 use native.Mathlib.Omega.{arith}
 use lib.ListN.{length}
 use Rattle.rules.specs.HallLine.{Band}
-use Rattle.rules.specs.NodesLanesEdges.{Node, nodeOf, standsAt, levelAt, isEndOfSome, withNode}
+use Rattle.rules.specs.NodesLanesEdges.{Node, nodeOf, standsAt, isEndOfSome, withNode}
 use Rattle.rules.specs.Profile.{Profile, hasNumber}
 use Rattle.rules.specs.Changes.{withBand, withEnds, inserted, nodesAtEnds, withoutWhere, removed}
 use Rattle.rules.proofs.Means.{Means, reworded, denied, not-means}
 use Rattle.rules.proofs.Lists.{In, Some, Each, in-kept, ascends-keep, length-keep, in-placed, placed-ascends}
-use Rattle.rules.proofs.NodesLanesEdges.{NodeAt, NoNodeAt, stands-at-means, EndOf, is-end-of-some-means, Asc, level-there, in-with-node, at-with-node, with-node-ascends}
+use Rattle.rules.proofs.NodesLanesEdges.{NodeAt, NoNodeAt, stands-at-means, EndOf, is-end-of-some-means, Asc, in-with-node, at-with-node, with-node-ascends}
 use Rattle.rules.proofs.Profile.{has-number-means, SameBut, NumbersAsc}
 
 -- ---- a band among the others
@@ -70,24 +70,9 @@ module _ (b : Band) (lo hi : ℕ) (ns : List Node) where
         ⊎-elim (λ i. inl (e .1 (inl i))) (⊎-elim (λ m. inl (e .1 (inr m))) (λ m. inr (m .0, none-high .1 (m .1, m .2)))),
       )
 
-  module _ (a : Asc 0 ns) where
-    pub with-ends-ascend : Asc 0 (withEnds b lo hi ns)
-    unfolding withEnds
-    with-ends-ascend = with-node-ascends (b .high) hi (withNode (b .low) lo ns) (with-node-ascends (b .low) lo ns a)
-
-    level-after : Each (λ n. levelAt (n .key) (withEnds b lo hi ns) ≡ n .level) (withEnds b lo hi ns)
-    level-after = level-there 0 (withEnds b lo hi ns) with-ends-ascend
-
-    -- a node that stood stays with its level ..
-    pub ends-level-stays : Each (λ n. levelAt (n .key) (withEnds b lo hi ns) ≡ n .level) ns
-    ends-level-stays n i = level-after n (in-with-ends n .1 (inl i))
-
-    -- .. and a made one has the level given for its end: a one-key band's node that of the low end
-    pub low-level-given : NoNodeAt (b .low) ns → levelAt (b .low) (withEnds b lo hi ns) ≡ lo
-    low-level-given h = level-after (nodeOf (b .low) lo) (in-with-ends _ .1 (inr (inl (refl, h))))
-
-    pub high-level-given : (b .high ≡ b .low → ⊥) → NoNodeAt (b .high) ns → levelAt (b .high) (withEnds b lo hi ns) ≡ hi
-    high-level-given off h = level-after (nodeOf (b .high) hi) (in-with-ends _ .1 (inr (inr (refl, off, h))))
+  pub with-ends-ascend : Asc 0 ns → Asc 0 (withEnds b lo hi ns)
+  unfolding withEnds
+  with-ends-ascend a = with-node-ascends (b .high) hi (withNode (b .low) lo ns) (with-node-ascends (b .low) lo ns a)
 
 -- ---- the profile after an insert
 

@@ -3,7 +3,7 @@
 -- makes has the level given.
 -- Assumes nothing.
 use Prim.Native.Nat.{ℕ}
-use mathlib.Core.Path.{_≡_, refl, sym, _∙_, ap, subst}
+use mathlib.Core.Path.{_≡_, sym, _∙_, ap, subst}
 use mathlib.Core.Bool.{Bool, true}
 use mathlib.Core.Logic.{inl, inr}
 use mathlib.Core.List.{List}
@@ -15,11 +15,8 @@ use Rattle.rules.specs.Readouts.{nodeRead}
 use Rattle.rules.specs.BoxSaysNo.{noNodeRead, nodeReadRefusal, nodeReadAnswer}
 use Rattle.rules.proofs.Lists.{In, Each, ascends-once}
 use Rattle.rules.proofs.NodesLanesEdges.{NodeAt, Asc, level-there}
-use Rattle.rules.proofs.Readouts.{node-read-level}
 use Rattle.rules.proofs.BoxSaysNo.{node-accepted, accepted-answers}
 use Rattle.rules.proofs.Changes.{MadeAtEnd, in-with-ends, inserted-nodes, in-nodes-left}
-use Rattle.rules.proofs.SoundMemory.{Standing}
-use Rattle.rules.proofs.Theory.MarksRead.{node-answered}
 
 -- each node before at whose key one stands after stands after as it was, with its level
 abbrev pub LevelsStay : List Node → List Node → Type 0
@@ -49,11 +46,6 @@ levels-read-same p q a c stay k before after =
     let m = node-accepted true q k .0 after .1 .1 in
     level-read-there q k after ∙ levels-same (p .nodes) (q .nodes) a c stay k n m ∙ sym (level-read-there p k before)
 
--- the readout of a node of a standing profile is not refused and gives the node's level
-pub level-read : (p : Profile) → Standing p → (n : Node) → In n (p .nodes)
-    → (nodeReadAnswer true p (n .key) .refusal ≡ 0) × (nodeReadAnswer true p (n .key) .read .level ≡ n .level)
-level-read p s n i = rw (node-answered p s n i) (refl, node-read-level p 0 (s .keys-ascend) n i)
-
 -- ---- insert and remove
 
 module _ (p : Profile) (b : Band) (lo hi : ℕ) where
@@ -61,11 +53,9 @@ module _ (p : Profile) (b : Band) (lo hi : ℕ) where
   pub insert-levels-stay : LevelsStay (p .nodes) (inserted p b lo hi .nodes)
   insert-levels-stay n i there = rw (inserted-nodes p b lo hi) (in-with-ends b lo hi (p .nodes) n .1 (inl i))
 
-  -- a node that it makes has the level given for its end
-  pub made-level-read : Standing (inserted p b lo hi) → (n : Node) → MadeAtEnd b lo hi (p .nodes) n
-      → (nodeReadAnswer true (inserted p b lo hi) (n .key) .refusal ≡ 0)
-      × (nodeReadAnswer true (inserted p b lo hi) (n .key) .read .level ≡ n .level)
-  made-level-read s n e = level-read (inserted p b lo hi) s n (rw (inserted-nodes p b lo hi) (in-with-ends b lo hi (p .nodes) n .1 (inr e)))
+  -- a node that it makes stands after it, with the level given for its end
+  pub made-stands : (n : Node) → MadeAtEnd b lo hi (p .nodes) n → In n (inserted p b lo hi .nodes)
+  made-stands n e = rw (inserted-nodes p b lo hi) (in-with-ends b lo hi (p .nodes) n .1 (inr e))
 
 -- a node that is left without some bands is one that stood
 pub without-levels-stay : (f : Band → Bool) (p : Profile) → Asc 0 (p .nodes) → LevelsStay (p .nodes) (withoutWhere f p .nodes)
