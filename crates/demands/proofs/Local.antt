@@ -13,10 +13,7 @@ use Rattle.rules.specs.Changes.{inserted, removed}
 use Rattle.rules.specs.Flags.{flagCount, flagAt}
 use Rattle.rules.specs.Reach.{presentBoth, madeOrDropped}
 use Rattle.rules.proofs.Profile.{SameBut, NoneBy, other-number}
-use Rattle.rules.proofs.Reach.{KeepsMarks}
-use Rattle.rules.proofs.Theory.StretchesOfCalls.{other-number-keeps-marks, standing-sides}
-use Rattle.rules.proofs.Theory.Stretches.{Side}
-use Rattle.rules.proofs.Theory.MarksRead.{ReadsKept, node-unrefused, marks-kept-read}
+use Rattle.rules.proofs.Theory.MarksRead.{ReadsKept, ProfileReadsKept, node-unrefused, other-number-reads-kept}
 use Rattle.store.specs.Memory.{Memory}
 use Rattle.store.specs.SaidProfile.{saidProfile}
 use Rattle.store.specs.Sound.{sound}
@@ -56,25 +53,14 @@ OtherNumbersKept n m w = (number : ℕ) → number < flagCount → (number ≡ n
 
 -- ---- between sound memories
 
--- what is kept by the profiles that sound memories say is kept by what is read of the memories
-marks-kept : (both touched : List Node) (m w : Memory) (s : sound m ≡ true) (t : sound w ≡ true) (number : ℕ) → number < flagCount
-    → KeepsMarks both touched (saidProfile m) (saidProfile w) number → MarksKept both touched number m w
-marks-kept both touched m w s t number h keeps =
-    let kept = marks-kept-read both touched (saidProfile m) (saidProfile w) (said-stands m s) (said-stands w t) number h keeps in
+-- what is kept in what is read of the profiles that sound memories say is kept in what is read of the memories
+reads-kept : (both touched : List Node) (m w : Memory) → sound m ≡ true → sound w ≡ true → (number : ℕ)
+    → ProfileReadsKept both touched number (saidProfile m) (saidProfile w) → MarksKept both touched number m w
+reads-kept both touched m w s t number kept =
     record {
       on-edge = λ x y lane. rw (edge-on-sound m s x lane, edge-on-sound w t x lane) (kept .on-edge x y lane);
       on-node = λ k. rw (node-on-sound m s k, node-on-sound w t k) (kept .on-node k);
     }
-
--- whichever nodes count as present throughout and which as touched
-pub stays-kept : (both touched : List Node) (m w : Memory) (s : sound m ≡ true) (t : sound w ≡ true)
-    → Side both touched (saidProfile m .nodes) (saidProfile w .nodes) → Side both touched (saidProfile w .nodes) (saidProfile m .nodes)
-    → {P : Band → Type 0} → SameBut P (saidProfile m) (saidProfile w)
-    → (number : ℕ) → number < flagCount → NoneBy P number (saidProfile m) → NoneBy P number (saidProfile w)
-    → MarksKept both touched number m w × MarksKept both touched number w m
-stays-kept both touched m w s t there back same number h before after =
-    let keeps = other-number-keeps-marks both touched (saidProfile m) (saidProfile w) (said-stands m s) (said-stands w t) there back same number before after in
-    (marks-kept both touched m w s t number h (keeps .0), marks-kept both touched w m t s number h (keeps .1))
 
 -- ---- every change
 
@@ -93,12 +79,14 @@ unchanged-kept P m number h before there = (same _ _, same _ _)
 pub change-local : (P : Band → Type 0) (m : Memory) (refusal : ℕ) (after : Profile) → ChangesOnly P m refusal after
     → OthersKept P m (changeIn m refusal after .after)
 change-local P m refusal after change =
-    change-leaves-so m refusal after (OthersKept P m) (unchanged-kept P m) (λ z.
+    change-leaves-so m refusal after (OthersKept P m) (unchanged-kept P m) (λ z number h before there.
     let w = changeIn m refusal after .after in
     let was = change .was-sound z in
     let left = change-leaves m refusal after (change .fitting) z in
-    let sides = standing-sides (saidProfile m) (saidProfile w) (said-stands m was) (said-stands w (left .is-sound)) in
-    stays-kept _ _ m w was (left .is-sound) (sides .0) (sides .1) (subst (SameBut P (saidProfile m)) (sym (left .says)) (change .others-stay z)))
+    let is = left .is-sound in
+    let same = subst (SameBut P (saidProfile m)) (sym (left .says)) (change .others-stay z) in
+    let kept = other-number-reads-kept (saidProfile m) (saidProfile w) (said-stands m was) (said-stands w is) same number h before there in
+    (reads-kept _ _ m w was is number (kept .0), reads-kept _ _ w m is was number (kept .1)))
 
 -- .. and where those are the bands of one number, of every other number
 number-local : (n : ℕ) (m w : Memory) → OthersKept (λ b. b .number ≡ n) m w → OtherNumbersKept n m w
