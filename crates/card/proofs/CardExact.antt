@@ -13,12 +13,12 @@ use lib.ListN.{length}
 use Rattle.rules.specs.Lists.{countIf, member}
 use Rattle.rules.specs.HallLine.{Band, highestKey, holds}
 use Rattle.rules.specs.Flags.{flagCount, flagAt}
-use Rattle.rules.specs.BoxSaysNo.{TableLine, bandLines, bandFault, noFlags}
+use Rattle.rules.specs.BoxSaysNo.{bandLines, bandFault, noFlags}
 use Rattle.rules.specs.BenchCard.{Scan as RuledScan, Bad, bad, recordFault, cardBad, scanOf}
 use Rattle.rules.proofs.Means.{passes-or-fails, denied, at-most-or-above}
-use Rattle.rules.proofs.Lists.{In, Some, Each, each-cons, member-means, in-map}
+use Rattle.rules.proofs.Lists.{In, Some, member-means, in-map}
 use Rattle.rules.proofs.Marks.{numbersOf}
-use Rattle.rules.proofs.FirstLine.{Ordered, Lowest, lowest-given}
+use Rattle.rules.proofs.FirstLine.{ordered-from, Lowest, lowest-given}
 use Rattle.rules.proofs.BoxSaysNo.{BandRight, band-fault-zero}
 use Rattle.rules.proofs.BenchCard.{record-fault-zero, record-fault-of-band, record-fault-twice, CardRight, FirstBad, right-or-bad, card-key-bad, card-first-bad, card-bad-zero, scan-tells, scan-zeros, scan-right, scan-flag, scan-count}
 use Rattle.hall.specs.Says.{answerSays}
@@ -49,10 +49,6 @@ pub record FirstBadRecord (records : List Band) (fault place : ℕ) : Type 0 whe
 
 -- ---- the first bad record is the rules' one
 
-numbers-above-zero : (c : ℕ) (ls : List TableLine) → 0 < c → Ordered c ls → Each (λ l. 0 < l .refusal) ls
-numbers-above-zero c [] p o = λ l i. absurd i
-numbers-above-zero c (l ∷ ls) p o = each-cons l ls .1 (omega arith, numbers-above-zero (l .refusal) ls (omega arith) (o .1))
-
 band-fault-given : (b : Band) (fault : ℕ) → 0 < fault → (bandFault b ≡ fault) ↔ Lowest (bandLines b) fault
 unfolding bandFault
 band-fault-given b fault = lowest-given (bandLines b) (omega arith) fault
@@ -63,7 +59,7 @@ module _ (before : List Band) (b : Band) where
 
   fault-as-ruled : (fault : ℕ) → FaultAfter before b fault → (recordFault (numbersOf before) b ≡ fault) × (0 < fault)
   fault-as-ruled fault (inl g) =
-      let line-above = numbers-above-zero 1 (bandLines b) (omega arith) (omega arith) (g .0 .0) (g .0 .1) in
+      let line-above = ordered-from 1 (bandLines b) (omega arith) (g .0 .0) (g .0 .1) in
       let line-number = g .0 .2 .1 in
       let above : 0 < fault = omega arith in
       let e = band-fault-given b fault above .1 g in
