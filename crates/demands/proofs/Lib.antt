@@ -14,7 +14,7 @@
 -- In Lives, LevelStays, Alone and Local each law is proved once, of every change (`change-..`); insert and remove are instances.
 -- What these are proved with:
 --   ChangesOnly       which bands a change can make come or go: any test on bands
---   EveryCall         what is so of every change, and of memory left as it was, is so of every call
+--   EveryCall         each call is that call by the rules: it asks, or is a change; so what is so of every change, and of memory left as it was, is so of all
 pub mod ChangesOnly
 pub mod EveryCall
 pub mod RefusedExactly
