@@ -1,6 +1,7 @@
 // The box's calls, by the table's letters.
 use desk_answers::Told;
 use desk_lines::Command;
+use hall::Answer;
 
 // An insert's fourth and fifth words are its levels; a remove's first and second are number and scope.
 pub(crate) fn change(
@@ -8,26 +9,19 @@ pub(crate) fn change(
     bands: &mut [u32],
     nodes: &mut [u32],
     marks: &mut [u32],
-) -> Told {
+) -> Answer {
     let which = command.which;
     match which {
-        b'i' => desk_answers::change_answer(inserting::insert(
+        b'i' => inserting::insert(
             bands,
             nodes,
             marks,
             command.band(),
             command.fourth,
             command.fifth,
-        )),
-        b'r' => desk_answers::change_answer(removing::remove(
-            bands,
-            nodes,
-            marks,
-            command.first,
-            command.second,
-        )),
-        b'e' => desk_answers::change_answer(emptying::empty(bands, nodes, marks)),
-        _ => desk_answers::nothing(),
+        ),
+        b'r' => removing::remove(bands, nodes, marks, command.first, command.second),
+        _ => emptying::empty(bands, nodes, marks),
     }
 }
 

@@ -17,7 +17,7 @@ fn with_card(mut desk: Desk, card_end: usize) -> Done {
 fn add(desk: Desk, band: Band, records: &mut [u32]) -> Done {
     let end = desk.card_end;
     if CARD_WORDS <= end {
-        return desk.told(desk_answers::fault_answer(Fault::CARD_FULL));
+        return desk.told(desk_answers::fault_answer(Fault::CARD_FULL.0));
     }
     card::lay_record(records, end / card::RECORD_WORDS, band);
     with_card(desk, end + card::RECORD_WORDS)

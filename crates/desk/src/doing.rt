@@ -2,7 +2,6 @@
 use crate::calling;
 use crate::carding;
 use crate::lending;
-use crate::lending::Found;
 use crate::lending::Lent;
 use crate::poking;
 use crate::state::Desk;
@@ -20,7 +19,7 @@ fn on_lent(command: Command, bands: &mut [u32], nodes: &mut [u32], marks: &mut [
     let kind = command.kind;
     match kind {
         b'w' => poking::on_slices(command, bands, nodes, marks),
-        b'c' => calling::change(command, bands, nodes, marks),
+        b'c' => desk_answers::change_answer(calling::change(command, bands, nodes, marks)),
         b'a' => calling::ask(command, bands, nodes, marks),
         _ => desk_answers::nothing(),
     }
@@ -54,13 +53,12 @@ pub(crate) fn on_words(
 }
 
 fn lend(mut desk: Desk, command: Command) -> Done {
-    match lending::find(command) {
-        Found::Lent(lent) => {
-            desk.lent = lent;
-            desk.told(desk_answers::done())
-        }
-        Found::NoSuchMemory => desk.told(desk_answers::fault_answer(Fault::NO_SUCH_MEMORY)),
+    let lent = lending::asked(command);
+    if lent.is_there() {
+        desk.lent = lent;
+        return desk.told(desk_answers::done());
     }
+    desk.told(desk_answers::fault_answer(Fault::NO_SUCH_MEMORY.0))
 }
 
 // A command on what is the desk's own: of the kinds ?, h, l and b. Of any other, what was told of it on the lent words is handed on.
@@ -72,7 +70,7 @@ pub(crate) fn on_own(
 ) -> Done {
     let kind = command.kind;
     match kind {
-        b'?' => desk.told(desk_answers::fault_answer(command.fault())),
+        b'?' => desk.told(desk_answers::fault_answer(command.first)),
         b'h' => desk.told(desk_answers::help_answer()),
         b'l' => lend(desk, command),
         b'b' => carding::do_card(desk, command, records),

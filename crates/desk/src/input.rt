@@ -47,11 +47,6 @@ fn take_line(mut desk: Desk, bytes: &mut [u8; OWN_BYTES]) -> Desk {
     desk
 }
 
-fn read(input: &mut [u8]) -> usize {
-    let got = libc::read(STDIN_FILENO, input);
-    io::count(got, input)
-}
-
 // Reads, and tells where what was read ends; where it starts, if there was nothing.
 fn read_input(bytes: &mut [u8]) -> usize {
     let start = INPUT_START;
@@ -59,7 +54,8 @@ fn read_input(bytes: &mut [u8]) -> usize {
     if bytes.len() < end {
         return start;
     }
-    let count = read(&mut bytes[start..end]);
+    let got = libc::read(STDIN_FILENO, &mut bytes[start..end]);
+    let count = io::count(got, &bytes[start..end]);
     if count < BUFFER { start + count } else { end }
 }
 

@@ -6,54 +6,34 @@ use crate::stores::MARK_STORE;
 use crate::stores::NODE_STORE;
 use desk_lines::Command;
 
-// The most nodes for which there are words.
-const MOST_NODE_ROOM: u32 = 2050;
-
 pub struct Lent {
     pub bands: usize,
     pub nodes: usize,
     pub marks: usize,
 }
 
-// What is to be lent, or that the desk has no such memory.
-pub enum Found {
-    Lent(Lent),
-    NoSuchMemory,
-}
-
-fn lengths(bands: usize, nodes: usize, marks: usize) -> Found {
-    if (BAND_STORE < bands) | (NODE_STORE < nodes) | (MARK_STORE < marks) {
-        return Found::NoSuchMemory;
+// What a line asks for: words of each store, or the memory of a room, with a place for each node and one for the header, and a word for each mark.
+pub(crate) fn asked(command: Command) -> Lent {
+    let first = command.first as usize;
+    let second = command.second as usize;
+    if command.which == b'm' {
+        return Lent {
+            bands: store::BAND_WORDS,
+            nodes: store::NODE_PLACE_WORDS * (first + 1),
+            marks: second,
+        };
     }
-    Found::Lent(Lent {
-        bands,
-        nodes,
-        marks,
-    })
-}
-
-// By rooms: a place for each node and one for the header, and a word for each mark.
-fn memory(nodes: u32, marks: u32) -> Found {
-    if MOST_NODE_ROOM < nodes {
-        return Found::NoSuchMemory;
+    Lent {
+        bands: first,
+        nodes: second,
+        marks: command.third as usize,
     }
-    let places = nodes as usize + 1;
-    lengths(
-        store::BAND_WORDS,
-        store::NODE_PLACE_WORDS * places,
-        marks as usize,
-    )
 }
 
-pub(crate) fn find(command: Command) -> Found {
-    let which = command.which;
-    match which {
-        b'm' => memory(command.first, command.second),
-        _ => lengths(
-            command.first as usize,
-            command.second as usize,
-            command.third as usize,
-        ),
+impl Lent {
+    // Whether the stores have so many words.
+    pub(crate) fn is_there(self) -> bool {
+        (self.bands <= BAND_STORE) & (self.nodes <= NODE_STORE) & (self.marks <= MARK_STORE)
     }
 }
 

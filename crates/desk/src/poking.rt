@@ -23,29 +23,6 @@ fn fill(words: &mut [u32], word: u32) {
     }
 }
 
-fn poke(words: &mut [u32], index: u32, word: u32) -> Poked {
-    let at = index as usize;
-    let found = at < words.len();
-    if found {
-        words[at] = word;
-    }
-    Poked { found, number: 0 }
-}
-
-fn peek(words: &[u32], index: u32) -> Poked {
-    let at = index as usize;
-    if at < words.len() {
-        return Poked {
-            found: true,
-            number: words[at],
-        };
-    }
-    Poked {
-        found: false,
-        number: 0,
-    }
-}
-
 // The sum with a word more.
 fn sum_with(sum: u32, word: u32) -> u32 {
     ((sum as u64 * TIMES + word as u64 + 1) % PRIME) as u32
@@ -63,10 +40,23 @@ fn sum_on(sum: u32, words: &[u32]) -> u32 {
 
 // A word of the slice that is meant, poked or peeked at: the line's second word is the index, the third what is poked.
 fn touch(command: Command, words: &mut [u32]) -> Poked {
+    let at = command.second as usize;
+    if words.len() <= at {
+        return Poked {
+            found: false,
+            number: 0,
+        };
+    }
     if command.which == b'o' {
-        poke(words, command.second, command.third)
-    } else {
-        peek(words, command.second)
+        words[at] = command.third;
+        return Poked {
+            found: true,
+            number: 0,
+        };
+    }
+    Poked {
+        found: true,
+        number: words[at],
     }
 }
 
@@ -97,7 +87,7 @@ fn on_slice(command: Command, slice: Slice, before: Poked, words: &mut [u32]) ->
 
 fn answer_of(which: u8, poked: Poked) -> Told {
     if !poked.found {
-        return desk_answers::fault_answer(Fault::NO_SUCH_WORD);
+        return desk_answers::fault_answer(Fault::NO_SUCH_WORD.0);
     }
     match which {
         b'f' | b'o' => desk_answers::done(),

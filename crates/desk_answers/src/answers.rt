@@ -8,7 +8,6 @@ use asking::NodeRead;
 use asking::RoomRead;
 use asking::StabRead;
 use card::Scan;
-use desk_lines::Fault;
 use hall::Answer;
 use hall::Next;
 use hall::Refusal;
@@ -31,10 +30,11 @@ pub fn help_answer() -> Told {
     plain(*b"0@.                                     ", [0; VALUES])
 }
 
-pub fn fault_answer(fault: Fault) -> Told {
+// What is wrong with a line, by its number.
+pub fn fault_answer(fault: u32) -> Told {
     plain(
         *b"? !.                                    ",
-        words(fault.0, 0, 0),
+        words(fault, 0, 0),
     )
 }
 

@@ -75,9 +75,4 @@ impl Command {
     pub fn key(self) -> Key {
         Key(self.first)
     }
-
-    // What is wrong, of a command that says that something is.
-    pub fn fault(self) -> Fault {
-        Fault(self.first)
-    }
 }

@@ -15,5 +15,3 @@ pub use faults::Fault;
 pub use reading::LINE_STORE;
 pub use reading::read_line;
 pub use slices::Slice;
-pub use table::ROW_COUNT;
-pub use table::name_byte;

@@ -2,7 +2,6 @@
 use crate::faults::Fault;
 use crate::numbers;
 use crate::numbers::Read;
-use crate::words;
 
 // One of the three slices of the memory, by its number.
 pub struct Slice(pub u32);
@@ -17,13 +16,13 @@ impl Slice {
 
 // The number of the slice that a word names.
 pub(crate) fn slice_of(word: &[u8]) -> Read {
-    if words::is(word, b"bands") {
+    if check::same(word, b"bands") {
         return numbers::right(Slice::BANDS.0);
     }
-    if words::is(word, b"nodes") {
+    if check::same(word, b"nodes") {
         return numbers::right(Slice::NODES.0);
     }
-    if words::is(word, b"marks") {
+    if check::same(word, b"marks") {
         return numbers::right(Slice::MARKS.0);
     }
     numbers::wrong(Fault::NOT_A_SLICE)

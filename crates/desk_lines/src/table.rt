@@ -50,11 +50,6 @@ fn byte(row: u32, part: u32, at: u32) -> u8 {
     words::byte_or_blank(&rows, index)
 }
 
-// A byte of a row's name; a blank past the name.
-pub fn name_byte(row: u32, at: u32) -> u8 {
-    byte(row, NAME, at)
-}
-
 // A letter of a row: that of a word by its place behind the name, a blank where the command takes no such word; at KIND and WHICH what it asks.
 pub(crate) fn letter(row: u32, place: u32) -> u8 {
     byte(row, LETTERS, place)

@@ -41,15 +41,8 @@ pub(crate) fn after(bytes: &[u8], place: usize) -> &[u8] {
 }
 
 // Where a byte first stands; the length where it does not.
-pub(crate) fn place_of(byte: u8, bytes: &[u8]) -> usize {
-    let mut at = 0;
-    while at < bytes.len() {
-        if bytes[at] == byte {
-            return at;
-        }
-        at += 1;
-    }
-    at
+pub(crate) fn place_of(byte: u8, word: &[u8]) -> usize {
+    bytes::scan::find(word, 0, word.len(), byte)
 }
 
 // The word with so many words before it; no bytes where the line has none.
@@ -74,19 +67,4 @@ pub(crate) fn behind_first(line: &[u8]) -> &[u8] {
 // The byte at an index; a blank past the end.
 pub(crate) fn byte_or_blank(bytes: &[u8], at: usize) -> u8 {
     if at < bytes.len() { bytes[at] } else { b' ' }
-}
-
-// Whether a word is this one, byte for byte.
-pub(crate) fn is(word: &[u8], name: &[u8]) -> bool {
-    if word.len() != name.len() {
-        return false;
-    }
-    let mut at = 0;
-    while at < name.len() {
-        if word[at] != name[at] {
-            return false;
-        }
-        at += 1;
-    }
-    true
 }
