@@ -9,13 +9,12 @@ use Rattle.rules.specs.Changes.{inserted}
 use Rattle.rules.specs.BoxSaysNo.{insertRefusal}
 use Rattle.rules.specs.Calls.{inserting}
 use Rattle.rules.proofs.BoxSaysNo.{InsertAccepted, insert-accepted}
-use Rattle.rules.proofs.Theory.StandingKept.{accepted-sound}
 use Rattle.store.specs.Sizes.{sizesRight}
 use Rattle.store.specs.Memory.{Memory, lengthsIn, roomIn}
 use Rattle.store.specs.SaidProfile.{saidProfile}
 use Rattle.store.specs.Sound.{sound}
-use Rattle.store.proofs.Sound.{sound-means, unsound-fails}
-use Rattle.store.proofs.SaidStands.{sizes-of-sound}
+use Rattle.store.proofs.Sound.{unsound-fails}
+use Rattle.store.proofs.SoundFirst.{sound-call-fits}
 use Rattle.store.specs.ChangeIn.{changeIn}
 use Rattle.store.proofs.ChangeIn.{Fitting, LeavesSound, change-leaves}
 use Rattle.inserting.specs.InsertCall.{insertRefusalIn, insertIn}
@@ -31,12 +30,7 @@ module _ (m : Memory) (b : Band) (lo hi : ℕ) where
 
   pub insert-fitting : Fitting m (insertRefusalIn m b lo hi) (inserted (saidProfile m) b lo hi)
   unfolding insertRefusalIn insertRefusal
-  insert-fitting =
-      record {
-        sizes = λ z. sizes-of-sound m (insert-was-sound z);
-        fits = λ z. accepted-sound (sizesRight (lengthsIn m)) (sound m) (roomIn m) (saidProfile m) (inserting b lo hi) z
-            (sound-means m .fact (insert-was-sound z) .in-room);
-      }
+  insert-fitting = sound-call-fits m (inserting b lo hi) insert-was-sound
 
   pub insert-leaves : insertIn m b lo hi .refusal ≡ 0 → LeavesSound m (inserted (saidProfile m) b lo hi) (insertIn m b lo hi .after)
   unfolding insertIn changeIn

@@ -8,13 +8,12 @@ use Rattle.rules.specs.Changes.{removed}
 use Rattle.rules.specs.BoxSaysNo.{removeRefusal}
 use Rattle.rules.specs.Calls.{removing}
 use Rattle.rules.proofs.BoxSaysNo.{RemoveAccepted, remove-accepted}
-use Rattle.rules.proofs.Theory.StandingKept.{accepted-sound}
 use Rattle.store.specs.Sizes.{sizesRight}
 use Rattle.store.specs.Memory.{Memory, lengthsIn, roomIn}
 use Rattle.store.specs.SaidProfile.{saidProfile}
 use Rattle.store.specs.Sound.{sound}
-use Rattle.store.proofs.Sound.{sound-means, unsound-fails}
-use Rattle.store.proofs.SaidStands.{sizes-of-sound}
+use Rattle.store.proofs.Sound.{unsound-fails}
+use Rattle.store.proofs.SoundFirst.{sound-call-fits}
 use Rattle.store.specs.ChangeIn.{changeIn}
 use Rattle.store.proofs.ChangeIn.{Fitting, LeavesSound, change-leaves}
 use Rattle.removing.specs.RemoveCall.{removeRefusalIn, removeIn}
@@ -30,12 +29,7 @@ module _ (m : Memory) (number scope : ℕ) where
 
   pub remove-fitting : Fitting m (removeRefusalIn m number scope) (removed (saidProfile m) number)
   unfolding removeRefusalIn removeRefusal
-  remove-fitting =
-      record {
-        sizes = λ z. sizes-of-sound m (remove-was-sound z);
-        fits = λ z. accepted-sound (sizesRight (lengthsIn m)) (sound m) (roomIn m) (saidProfile m) (removing number scope) z
-            (sound-means m .fact (remove-was-sound z) .in-room);
-      }
+  remove-fitting = sound-call-fits m (removing number scope) remove-was-sound
 
   pub remove-leaves : removeIn m number scope .refusal ≡ 0 → LeavesSound m (removed (saidProfile m) number) (removeIn m number scope .after)
   unfolding removeIn changeIn

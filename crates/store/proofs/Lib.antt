@@ -16,7 +16,7 @@
 --   LaidSound      what is laid is sound and says the profile: each that stands and fits has such a memory
 --   SaidStands     the profile that sound memory says stands, and fits its room
 --   ChangeIn       what is so of every change of memory
---   SoundFirst     the line of soundness, by which a change that asks for sound memory is judged first
+--   SoundFirst     a change that asks for sound memory: the line by which it is judged first, and that it owes what every change does
 --   JudgedFirst    a change that lines judge before it is made ready: what those give stands, or 11 and 12 decide
 --   ToldBack       what the outcome of a call that changes says tells it back
 --   LentWords      what a call that is lent memory is given, as promises speak of it
