@@ -49,9 +49,6 @@ module _ {p : Profile} {bands nodes : List ℕ} (d : Drafts p bands nodes) where
     ap standing drafts-say ∙ d .stands,
   )
 
-  pub drafts-in-use : inUse nodes ≡ length (p .nodes)
-  drafts-in-use = draft-in-use (p .nodes) nodes (d .nodes-drafted)
-
   -- a number is live exactly when its place in the draft says so
   pub drafts-live : (number : ℕ) → number < bandPlaces → isLive number (p .bands) ≡ saysYes (bandField bands number liveField)
   drafts-live number h = ap (isLive number) (sym bands-said) ∙ live-by-place bands number h

@@ -228,10 +228,6 @@ module _ (ns : List ℕ) where
   unfolding flagsOf countOf
   ones-of-flags = ones-are-the-count (λ n. member n ns)
 
-  pub count-at-most-flags : countOf ns ≤ 1024
-  unfolding countOf
-  count-at-most-flags = count-at-most (λ n. member n ns) 0 1024
-
   pub count-at-most-length : countOf ns ≤ length ns
   unfolding countOf
   count-at-most-length = count-of-list-at-most 1024 ns

@@ -1,10 +1,10 @@
 -- Which of the two lines on room can refuse a remove: 11 never, for a remove makes no node; 12 can, for other bands may need more marks
--- once a node is dropped. So a remove may be judged by both, as an insert is.
+-- once a node is dropped. So code may judge a remove by both, as it does an insert.
 -- Assumes nothing.
 use Prim.Native.Nat.{ℕ, _≤_}
-use mathlib.Core.Path.{_≡_, refl, sym, _∙_, subst}
+use mathlib.Core.Path.{_≡_, refl, subst}
 use mathlib.Core.Bool.{Bool, true, false}
-use mathlib.Core.List.{[], _∷_, map}
+use mathlib.Core.List.{_∷_, map}
 use native.Mathlib.Omega.{arith}
 use lib.ListN.{length}
 use Rattle.rules.specs.Connectives.{_or_}
@@ -12,14 +12,14 @@ use Rattle.rules.specs.Profile.{Profile}
 use Rattle.rules.specs.Marks.{marksInUse}
 use Rattle.rules.specs.Room.{Room, roomOf, roomInRange}
 use Rattle.rules.specs.Changes.{removed}
-use Rattle.rules.specs.BoxSaysNo.{refusalBy, nodesExceed, marksExceed, fitRefusal, removeJudgedLines, removeLines, removeRefusal}
+use Rattle.rules.specs.BoxSaysNo.{nodesExceed, removeLines, removeRefusal}
 use Rattle.rules.specs.SoundMemory.{soundIn}
 use Rattle.rules.specs.Computes.{computes}
 use Rattle.rules.specs.BenchProfile.{p9}
 use Rattle.rules.proofs.Means.{never, lt-fails}
 use Rattle.rules.proofs.Lists.{In, member-means}
 use Rattle.rules.proofs.Changes.{removed-nodes-no-more}
-use Rattle.rules.proofs.FirstLine.{refusal-next, refusal-then, refusal-among}
+use Rattle.rules.proofs.FirstLine.{refusal-among}
 
 module _ (room : Room) (p : Profile) (number : ℕ) where
   -- 11 is never given on a remove: it is none of a remove's lines ..
@@ -32,16 +32,6 @@ module _ (room : Room) (p : Profile) (number : ℕ) where
   -- .. nor need it be: where nodes fit before the remove, 11 does not apply after it
   pub eleven-not-after-remove : length (p .nodes) ≤ room .nodes → nodesExceed room (removed p number) .applies ≡ false
   eleven-not-after-remove h = lt-fails (room .nodes) (length (removed p number .nodes)) .test (omega (arith, removed-nodes-no-more p number))
-
-  -- so where 1, 2, 3, 9 and 10 give nothing, 11 and 12 by the profile after it decide, as they do on an insert
-  pub remove-by-fit : (sizesRight sound : Bool) (scope : ℕ) → length (p .nodes) ≤ room .nodes
-      → refusalBy (removeJudgedLines sizesRight sound p number scope) ≡ 0
-      → removeRefusal sizesRight sound room p number scope ≡ fitRefusal room (removed p number)
-  unfolding removeRefusal fitRefusal
-  remove-by-fit sizesRight sound scope h z =
-      let last = marksExceed room (removed p number) ∷ [] in
-      refusal-then (removeJudgedLines sizesRight sound p number scope) last (omega arith) z
-      ∙ sym (refusal-next (nodesExceed room (removed p number)) last (eleven-not-after-remove h))
 
 -- room for 5 nodes and 8 marks, which P9 just fits
 abbrev pub justP9 : Room
