@@ -2,7 +2,7 @@
 -- accepted, the one memory of the profile after it for the same room.
 -- Assumes nothing.
 use Prim.Native.Nat.{ℕ}
-use mathlib.Core.List.{List, [], _∷_}
+use mathlib.Core.List.{List}
 use Rattle.rules.specs.Profile.{Profile}
 use Rattle.rules.specs.BoxSaysNo.{Change, fitRefusal}
 use Rattle.store.specs.Memory.{Memory, roomIn}

@@ -1,25 +1,24 @@
--- What the draft of a profile says: the profile, and no other. How many of its nodes are in use, which numbers are live in it; and that blank words
--- draft an empty profile.
+-- What the draft of a profile says: the profile, and no other; which numbers are live in it; and that blank words draft an empty profile.
 -- Assumes nothing.
 use Prim.Native.Nat.{ℕ, _*_, _<_}
 use mathlib.Core.Path.{_≡_, sym, ap, subst, _∙_}
 use mathlib.Core.Bool.{true}
 use mathlib.Core.List.{List}
-use lib.ListN.{length, replicate}
+use lib.ListN.{replicate}
 use Rattle.rules.specs.Connectives.{saysYes}
 use Rattle.rules.specs.Profile.{Profile, profileOf, emptyProfile, isLive}
 use Rattle.rules.specs.SoundMemory.{standing}
 use Rattle.rules.proofs.SoundMemory.{Standing, standing-means}
 use Rattle.rules.proofs.Theory.StandingKept.{empty-stands}
 use Rattle.store.specs.Sizes.{bandPlaceWords, bandPlaces}
-use Rattle.store.specs.Places.{bandField, liveField, inUse}
+use Rattle.store.specs.Places.{bandField, liveField}
 use Rattle.store.specs.SaidProfile.{saidBands, saidNodes, saidBy}
 use Rattle.store.specs.LaidBands.{laidBands}
 use Rattle.store.proofs.LaidBands.{laid-bands-none, laid-bands-say}
 use Rattle.store.proofs.SaidBands.{live-by-place}
 use Rattle.drafting.specs.NodeDraft.{draftWords, DraftOf}
 use Rattle.drafting.specs.Drafts.{Drafts}
-use Rattle.drafting.proofs.NodeDraft.{none-drafted, draft-in-use, draft-says}
+use Rattle.drafting.proofs.NodeDraft.{none-drafted, draft-says}
 
 -- the band words of a profile that stands say its bands
 pub standing-bands-said : (p : Profile) {bands : List ℕ} → standing p ≡ true → bands ≡ laidBands (p .bands) → saidBands bands ≡ p .bands
