@@ -1,5 +1,6 @@
 -- From an empty profile in any memory of right sizes, after any calls: memory is, to the last word, the one memory of the profile that the rules
--- themselves come to by those calls. So every band inserted, and neither removed nor emptied since, is in what the words say, and no other.
+-- themselves come to by those calls, and each further call answers the number that the rules give on that profile. So every band inserted, and neither
+-- removed nor emptied since, is in what the words say, and no other.
 -- Assumes nothing.
 use mathlib.Core.Path.{_≡_, refl, sym, _∙_, ap}
 use mathlib.Core.Bool.{true}
@@ -15,18 +16,30 @@ use Rattle.store.specs.Memory.{Memory, lengthsIn, roomIn}
 use Rattle.store.specs.SaidProfile.{saidProfile}
 use Rattle.store.specs.LaidMemory.{laidMemory}
 use Rattle.store.specs.Sound.{sound}
+use Rattle.store.specs.ChangeIn.{changeIn}
 use Rattle.store.proofs.Sound.{sound-means}
 use Rattle.store.proofs.SaidStands.{sizes-of-sound}
 use Rattle.store.proofs.ChangeIn.{change-says}
 use Rattle.emptying.specs.EmptyCall.{emptyIn}
 use Rattle.emptying.proofs.EmptyExact.{empty-makes}
-use Rattle.demands.specs.Calls.{afterCall, afterCalls}
+use Rattle.demands.specs.Calls.{refusalOf, afterCall, afterCalls}
 use Rattle.demands.specs.Lines.{linesOf}
 use Rattle.demands.proofs.EveryCall.{asks-or-changes}
 use Rattle.demands.proofs.KeepsSound.{keeps-sound, keeps-lengths}
 use Rattle.demands.proofs.AlwaysSound.{always-sound}
 
--- each call on sound memory does to the profile what the rules do
+-- each call on sound memory answers the number that the rules give on the profile that the words say ..
+pub answers-ruled : (m : Memory) → sound m ≡ true → (c : Call) → refusalOf m c ≡ callOutcome true true (roomIn m) (saidProfile m) c .refusal
+unfolding changeIn
+answers-ruled m s c =
+    ⊎-elim
+    (λ a. ap (λ (o : Change Memory). o .refusal) (a .comes-to) ∙ a .judged-as-ruled s)
+    (λ a. ap (λ (o : Change Memory). o .refusal) (a .comes-to)
+    ∙ ap refusalBy (a .judged-as-ruled)
+    ∙ (λ i. callOutcome (sizes-of-sound m s i) (s i) (roomIn m) (saidProfile m) c .refusal))
+    (asks-or-changes m c)
+
+-- .. and does to the profile what the rules do
 says-ruled : (m : Memory) → sound m ≡ true → (c : Call) → saidProfile (afterCall m c) ≡ ruledAfterCall (roomIn m) (saidProfile m) c
 says-ruled m s c =
     let p = saidProfile m in
@@ -56,3 +69,14 @@ always-ruled m right cs =
     sound-means (afterCalls (emptyIn m .after) cs) .fact (kept .is-sound) .laid
     ∙ (λ i. laidMemory (roomFor (kept .same-lengths i)) (said i))
     ∙ (λ i. laidMemory (roomFor (lengthsIn m)) (ruledAfterCalls (roomFor (made .same-lengths i)) (made .is-empty i) cs))
+
+pub always-answers-ruled : (m : Memory) → sizesRight (lengthsIn m) ≡ true → (cs : List Call) (c : Call)
+    → refusalOf (afterCalls (emptyIn m .after) cs) c ≡ callOutcome true true (roomIn m) (ruledAfterCalls (roomIn m) emptyProfile cs) c .refusal
+unfolding roomIn
+always-answers-ruled m right cs c =
+    let made = empty-makes m right in
+    let kept = always-sound m right cs in
+    let said = say-ruled (emptyIn m .after) (made .is-sound) cs in
+    answers-ruled (afterCalls (emptyIn m .after) cs) (kept .is-sound) c
+    ∙ (λ i. callOutcome true true (roomFor (kept .same-lengths i)) (said i) c .refusal)
+    ∙ (λ i. callOutcome true true (roomFor (lengthsIn m)) (ruledAfterCalls (roomFor (made .same-lengths i)) (made .is-empty i) cs) c .refusal)

@@ -9,11 +9,12 @@ use mathlib.Core.Bool.{true}
 use mathlib.Core.Logic.{_↔_, ⊎-elim}
 use mathlib.Core.List.{_∷_, map}
 use Rattle.rules.specs.Lists.{ascendFrom}
+use Rattle.rules.specs.HallLine.{Band}
 use Rattle.rules.specs.BoxSaysNo.{refusalBy, Change}
 use Rattle.rules.specs.Calls.{Call, numbersOf}
-use Rattle.rules.proofs.Lists.{In}
+use Rattle.rules.proofs.Lists.{In, Each}
 use Rattle.rules.proofs.FirstLine.{GivenExactly, LowestExactly}
-use Rattle.rules.proofs.RuledCalls.{call-lines-numbered, call-no-other-number, call-refused-exactly, call-refused-by-lowest}
+use Rattle.rules.proofs.RuledCalls.{call-lines-numbered, call-no-other-number, call-refused-exactly, call-refused-by-lowest, papersCalls, papers-numbers-ascend}
 use Rattle.store.specs.Memory.{Memory}
 use Rattle.store.specs.ChangeIn.{changeIn}
 use Rattle.demands.specs.Calls.{refusalOf}
@@ -45,3 +46,8 @@ module _ (m : Memory) (c : Call) where
   -- it answers 0 or a number of its own lines
   pub no-other-number : In (refusalOf m c) (0 ∷ numbersOf c)
   no-other-number = rw refused-by-lines (call-no-other-number (knownIn m) c)
+
+-- so of the paper's calls, with any arguments, the lowest number that applies is given
+pub papers-refused-by-lowest : (m : Memory) (b : Band) (lo hi number scope key lane : ℕ)
+    → Each (λ c. (n : ℕ) → (refusalOf m c ≡ n) ↔ LowestExactly n (linesOf m c)) (papersCalls b lo hi number scope key lane)
+papers-refused-by-lowest m b lo hi number scope key lane c i = refused-by-lowest m c (papers-numbers-ascend b lo hi number scope key lane c i)
