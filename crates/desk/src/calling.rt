@@ -2,6 +2,7 @@
 use desk_answers::Told;
 use desk_lines::Command;
 use hall::Answer;
+use hall::Key;
 
 // An insert's fourth and fifth words are its levels; a remove's first and second are number and scope.
 pub(crate) fn change(
@@ -16,7 +17,7 @@ pub(crate) fn change(
             bands,
             nodes,
             marks,
-            command.band(),
+            command.band,
             command.fourth,
             command.fifth,
         ),
@@ -29,7 +30,7 @@ pub(crate) fn ask(command: Command, bands: &[u32], nodes: &[u32], marks: &[u32])
     let which = command.which;
     let number = command.first;
     let lane = command.second;
-    let key = command.key();
+    let key = Key(command.first);
     match which {
         b's' => desk_answers::stab_answer(asking::stab(bands, nodes, marks, key)),
         b'b' => desk_answers::band_answer(asking::band(bands, nodes, marks, number)),

@@ -9,18 +9,19 @@ use desk_lines::Fault;
 use hall::Band;
 use hall::Key;
 
-fn with_card(mut desk: Desk, card_end: usize) -> Done {
-    desk.card_end = card_end;
+fn clear(mut desk: Desk) -> Done {
+    desk.card_end = 0;
     desk.told(desk_answers::done())
 }
 
-fn add(desk: Desk, band: Band, records: &mut [u32]) -> Done {
+fn add(mut desk: Desk, band: Band, records: &mut [u32]) -> Done {
     let end = desk.card_end;
     if CARD_WORDS <= end {
         return desk.told(desk_answers::fault_answer(Fault::CARD_FULL.0));
     }
     card::lay_record(records, end / card::RECORD_WORDS, band);
-    with_card(desk, end + card::RECORD_WORDS)
+    desk.card_end = end + card::RECORD_WORDS;
+    desk.told(desk_answers::done())
 }
 
 fn scan(card_end: usize, key: Key, records: &[u32]) -> Told {
@@ -32,9 +33,9 @@ fn scan(card_end: usize, key: Key, records: &[u32]) -> Told {
 pub(crate) fn do_card(desk: Desk, command: Command, records: &mut [u32]) -> Done {
     let which = command.which;
     match which {
-        b'a' => add(desk, command.band(), records),
-        b's' => desk.told(scan(desk.card_end, command.key(), records)),
-        b'c' => with_card(desk, 0),
+        b'a' => add(desk, command.band, records),
+        b's' => desk.told(scan(desk.card_end, Key(command.first), records)),
+        b'c' => clear(desk),
         _ => desk.told(desk_answers::nothing()),
     }
 }

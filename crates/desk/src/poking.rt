@@ -15,11 +15,15 @@ pub struct Poked {
     pub number: u32,
 }
 
-fn fill(words: &mut [u32], word: u32) {
+fn fill(words: &mut [u32], word: u32) -> Poked {
     let mut at = 0;
     while at < words.len() {
         words[at] = word;
         at += 1;
+    }
+    Poked {
+        found: true,
+        number: 0,
     }
 }
 
@@ -28,18 +32,24 @@ fn sum_with(sum: u32, word: u32) -> u32 {
     ((sum as u64 * TIMES + word as u64 + 1) % PRIME) as u32
 }
 
-fn sum_on(sum: u32, words: &[u32]) -> u32 {
+fn sum_on(sum: u32, words: &[u32]) -> Poked {
     let mut so_far = sum;
     let mut at = 0;
     while at < words.len() {
         so_far = sum_with(so_far, words[at]);
         at += 1;
     }
-    so_far
+    Poked {
+        found: true,
+        number: so_far,
+    }
 }
 
-// A word of the slice that is meant, poked or peeked at: the line's second word is the index, the third what is poked.
-fn touch(command: Command, words: &mut [u32]) -> Poked {
+// A word poked or peeked at, where the slice is the one that is meant: the line's second word is the index, the third what is poked.
+fn touch(command: Command, slice: Slice, before: Poked, words: &mut [u32]) -> Poked {
+    if command.first != slice.0 {
+        return before;
+    }
     let at = command.second as usize;
     if words.len() <= at {
         return Poked {
@@ -64,24 +74,9 @@ fn touch(command: Command, words: &mut [u32]) -> Poked {
 fn on_slice(command: Command, slice: Slice, before: Poked, words: &mut [u32]) -> Poked {
     let which = command.which;
     match which {
-        b'f' => {
-            fill(words, command.first);
-            Poked {
-                found: true,
-                number: 0,
-            }
-        }
-        b's' => Poked {
-            found: true,
-            number: sum_on(before.number, words),
-        },
-        _ => {
-            if command.first == slice.0 {
-                touch(command, words)
-            } else {
-                before
-            }
-        }
+        b'f' => fill(words, command.first),
+        b's' => sum_on(before.number, words),
+        _ => touch(command, slice, before, words),
     }
 }
 

@@ -17,11 +17,8 @@ pub struct Command {
     pub third: u32,
     pub fourth: u32,
     pub fifth: u32,
-    // Its stretch.
-    pub low: Key,
-    pub high: Key,
-    pub low_closed: bool,
-    pub high_closed: bool,
+    // The band of its first two numbers and its stretch.
+    pub band: Band,
 }
 
 impl Command {
@@ -35,10 +32,14 @@ impl Command {
             third: said[2],
             fourth: said[3],
             fifth: said[4],
-            low: Key(said[said::LOW]),
-            high: Key(said[said::HIGH]),
-            low_closed: said[said::LOW_BRACKET] == b'[' as u32,
-            high_closed: said[said::HIGH_BRACKET] == b']' as u32,
+            band: Band {
+                number: said[0],
+                scope: said[1],
+                low: Key(said[said::LOW]),
+                high: Key(said[said::HIGH]),
+                low_closed: said[said::LOW_BRACKET] == b'[' as u32,
+                high_closed: said[said::HIGH_BRACKET] == b']' as u32,
+            },
         }
     }
 
@@ -55,24 +56,5 @@ impl Command {
     // The command with which a desk starts.
     pub fn empty() -> Command {
         Command::of(b'c', b'e', [0; SAID_COUNT])
-    }
-
-    // The band of a number, a scope and a stretch.
-    pub fn band(self) -> Band {
-        let low = self.low;
-        let high = self.high;
-        Band {
-            number: self.first,
-            scope: self.second,
-            low,
-            high,
-            low_closed: self.low_closed,
-            high_closed: self.high_closed,
-        }
-    }
-
-    // The key, of a command that takes one.
-    pub fn key(self) -> Key {
-        Key(self.first)
     }
 }

@@ -31,13 +31,4 @@ impl Fault {
     pub const NO_SUCH_WORD: Fault = Fault(12);
 
     pub const CARD_FULL: Fault = Fault(13);
-
-    pub(crate) fn is_none(self) -> bool {
-        self.0 == Fault::NONE.0
-    }
-
-    // This one, or else what is wrong further right.
-    pub(crate) fn or(self, right: Fault) -> Fault {
-        if self.0 == Fault::NONE.0 { right } else { self }
-    }
 }

@@ -52,8 +52,8 @@ pub(crate) fn key_of(word: &[u8]) -> Read {
         return numbers::wrong(Fault::NOT_A_KEY);
     }
     of_parts(
-        words::before(word, colon),
-        words::before(rest, second_colon),
+        words::part(word, 0, colon),
+        words::part(rest, 0, second_colon),
         words::after(rest, second_colon),
     )
 }

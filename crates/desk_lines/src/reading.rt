@@ -60,7 +60,7 @@ fn read_words(row: u32, behind: &[u8], said: &mut Said) -> Fault {
             return words_past(behind, place);
         }
         let fault = read_word(letter, words::word(behind, place), place, said);
-        if !fault.is_none() {
+        if fault.0 != Fault::NONE.0 {
             return fault;
         }
         place += 1;
@@ -71,7 +71,7 @@ fn read_words(row: u32, behind: &[u8], said: &mut Said) -> Fault {
 fn read_row(row: u32, behind: &[u8]) -> Command {
     let mut said = [0; SAID_COUNT];
     let fault = read_words(row, behind, &mut said);
-    if !fault.is_none() {
+    if fault.0 != Fault::NONE.0 {
         return Command::wrong(fault);
     }
     Command::of(
@@ -95,10 +95,8 @@ fn read_named(row: u32, line: &[u8], second: &[u8]) -> Command {
 
 fn read(line: &[u8]) -> Command {
     let first = words::word(line, 0);
-    if first.len() == 0 {
-        return Command::nothing();
-    }
-    if first[0] == b'#' {
+    let start = words::byte_or_blank(first, 0);
+    if (start == b' ') | (start == b'#') {
         return Command::nothing();
     }
     let second = words::word(line, 1);
@@ -132,5 +130,5 @@ pub fn read_line(bytes: &[u8], length: usize) -> Command {
     if LONGEST_LINE < shorn {
         return Command::wrong(Fault::LINE_TOO_LONG);
     }
-    read(words::before(bytes, shorn))
+    read(words::part(bytes, 0, shorn))
 }

@@ -2,28 +2,35 @@
 use crate::faults::Fault;
 use crate::numbers;
 use crate::numbers::Read;
+use crate::words;
 
-// One of the three slices of the memory, by its number.
+// One of the three slices of the memory, by its name's first letter.
 pub struct Slice(pub u32);
 
 impl Slice {
-    pub const BANDS: Slice = Slice(0);
+    pub const BANDS: Slice = Slice(b'b' as u32);
 
-    pub const NODES: Slice = Slice(1);
+    pub const NODES: Slice = Slice(b'n' as u32);
 
-    pub const MARKS: Slice = Slice(2);
+    pub const MARKS: Slice = Slice(b'm' as u32);
 }
 
-// The number of the slice that a word names.
+// The one name that a word with this first letter can be.
+fn name_by(letter: u8) -> [u8; 5] {
+    match letter {
+        b'b' => *b"bands",
+        b'n' => *b"nodes",
+        _ => *b"marks",
+    }
+}
+
+// The slice that a word names.
 pub(crate) fn slice_of(word: &[u8]) -> Read {
-    if check::same(word, b"bands") {
-        return numbers::right(Slice::BANDS.0);
+    let letter = words::byte_or_blank(word, 0);
+    let name = name_by(letter);
+    if check::same(word, &name) {
+        numbers::right(letter as u32)
+    } else {
+        numbers::wrong(Fault::NOT_A_SLICE)
     }
-    if check::same(word, b"nodes") {
-        return numbers::right(Slice::NODES.0);
-    }
-    if check::same(word, b"marks") {
-        return numbers::right(Slice::MARKS.0);
-    }
-    numbers::wrong(Fault::NOT_A_SLICE)
 }

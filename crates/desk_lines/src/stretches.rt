@@ -11,21 +11,19 @@ fn read_ends(ends: &[u8], said: &mut Said) -> Fault {
     if comma == ends.len() {
         return Fault::NOT_A_STRETCH;
     }
-    let low = keys::key_of(words::before(ends, comma));
+    let low = keys::key_of(words::part(ends, 0, comma));
     let high = keys::key_of(words::after(ends, comma));
     said[said::LOW] = low.number;
     said[said::HIGH] = high.number;
-    let low_fault = low.fault;
-    let high_fault = high.fault;
-    low_fault.or(high_fault)
+    if low.fault.0 == Fault::NONE.0 {
+        high.fault
+    } else {
+        low.fault
+    }
 }
 
 fn are_brackets(low: u8, high: u8) -> bool {
     ((low == b'[') | (low == b'(')) & ((high == b']') | (high == b')'))
-}
-
-fn wide(byte: u8) -> u32 {
-    byte as u32
 }
 
 pub(crate) fn read_stretch(word: &[u8], said: &mut Said) -> Fault {
@@ -33,12 +31,12 @@ pub(crate) fn read_stretch(word: &[u8], said: &mut Said) -> Fault {
         return Fault::NOT_A_STRETCH;
     }
     let last = word.len() - 1;
-    let low_bracket = word[0];
-    let high_bracket = word[last];
+    let low_bracket = words::byte_or_blank(word, 0);
+    let high_bracket = words::byte_or_blank(word, last);
     if !are_brackets(low_bracket, high_bracket) {
         return Fault::NOT_A_STRETCH;
     }
-    said[said::LOW_BRACKET] = wide(low_bracket);
-    said[said::HIGH_BRACKET] = wide(high_bracket);
-    read_ends(words::after(words::before(word, last), 0), said)
+    said[said::LOW_BRACKET] = low_bracket as u32;
+    said[said::HIGH_BRACKET] = high_bracket as u32;
+    read_ends(words::part(word, 1, last), said)
 }

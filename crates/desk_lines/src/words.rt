@@ -17,7 +17,7 @@ fn next_place(line: &[u8], from: usize, blank: bool) -> usize {
 }
 
 // The bytes from an index up to another; none where there is no such part.
-fn part(bytes: &[u8], start: usize, end: usize) -> &[u8] {
+pub(crate) fn part(bytes: &[u8], start: usize, end: usize) -> &[u8] {
     if end <= bytes.len() {
         if start <= end {
             return &bytes[start..end];
@@ -25,11 +25,6 @@ fn part(bytes: &[u8], start: usize, end: usize) -> &[u8] {
     }
     let zero = 0;
     &bytes[zero..zero]
-}
-
-// The bytes before an index.
-pub(crate) fn before(bytes: &[u8], place: usize) -> &[u8] {
-    part(bytes, 0, place)
 }
 
 // The bytes past the one at an index; none where there is no such byte.

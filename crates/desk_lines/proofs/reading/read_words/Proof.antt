@@ -32,9 +32,6 @@ word-requires c κs = search needs
 read-word-requires : tie.Need-read-word-requires Inv-loop μ-loop
 read-word-requires c κs = search needs
 
-is-none-requires : tie.Need-is-none-requires Inv-loop μ-loop
-is-none-requires c κs = search needs
-
 returns-2 : tie.Need-returns-2 Inv-loop μ-loop
 returns-2 c = search needs
 
@@ -66,7 +63,6 @@ read-words-spec =
     returns
     word-requires
     read-word-requires
-    is-none-requires
     returns-2
     add-place
     loop-less
