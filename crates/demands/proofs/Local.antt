@@ -53,8 +53,9 @@ OtherNumbersKept n m w = (number : ℕ) → number < flagCount → (number ≡ n
 
 -- ---- between sound memories
 
--- what is kept in what is read of the profiles that sound memories say is kept in what is read of the memories
-reads-kept : (both touched : List Node) (m w : Memory) → sound m ≡ true → sound w ≡ true → (number : ℕ)
+-- what is kept in what is read of the profiles that sound memories say is kept in what is read of the memories, whichever nodes count as present and
+-- as touched
+pub reads-kept : (both touched : List Node) (m w : Memory) → sound m ≡ true → sound w ≡ true → (number : ℕ)
     → ProfileReadsKept both touched number (saidProfile m) (saidProfile w) → MarksKept both touched number m w
 reads-kept both touched m w s t number kept =
     record {

@@ -14,9 +14,8 @@ use Rattle.store.specs.SaidProfile.{saidProfile}
 use Rattle.store.specs.Sound.{sound}
 use Rattle.store.proofs.Sound.{unsound-fails}
 use Rattle.store.proofs.SoundFirst.{sound-call-fits}
-use Rattle.store.specs.ChangeIn.{changeIn}
-use Rattle.store.proofs.ChangeIn.{Fitting, LeavesSound, change-leaves}
-use Rattle.removing.specs.RemoveCall.{removeRefusalIn, removeIn}
+use Rattle.store.proofs.ChangeIn.{Fitting}
+use Rattle.removing.specs.RemoveCall.{removeRefusalIn}
 
 module _ (m : Memory) (number scope : ℕ) where
   pub remove-unrefused : removeRefusalIn m number scope ≡ 0
@@ -30,7 +29,3 @@ module _ (m : Memory) (number scope : ℕ) where
   pub remove-fitting : Fitting m (removeRefusalIn m number scope) (removed (saidProfile m) number)
   unfolding removeRefusalIn removeRefusal
   remove-fitting = sound-call-fits m (removing number scope) remove-was-sound
-
-  pub remove-leaves : removeIn m number scope .refusal ≡ 0 → LeavesSound m (removed (saidProfile m) number) (removeIn m number scope .after)
-  unfolding removeIn changeIn
-  remove-leaves z = change-leaves m (removeRefusalIn m number scope) (removed (saidProfile m) number) remove-fitting z

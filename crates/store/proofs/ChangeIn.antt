@@ -45,10 +45,6 @@ module _ (m : Memory) (refusal : ℕ) (after : Profile) where
             (fit-refusal-zero (roomIn m) after .1 (within z));
       }
 
-  pub change-refusal : changeIn m refusal after .refusal ≡ refusal
-  unfolding changeIn
-  change-refusal = refl
-
   -- refused, it leaves all memory as it was
   pub change-refused : (refusal ≡ 0 → ⊥) → changeIn m refusal after .after ≡ m
   unfolding changeIn

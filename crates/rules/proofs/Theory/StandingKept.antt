@@ -12,7 +12,7 @@ use Rattle.rules.specs.NodesLanesEdges.{isEndOfSome}
 use Rattle.rules.specs.Profile.{Profile, emptyProfile, hasNumber}
 use Rattle.rules.specs.Marks.{marksInUse}
 use Rattle.rules.specs.Changes.{inserted, nodesAtEnds, withoutWhere, removed}
-use Rattle.rules.specs.Room.{Room, roomInRange}
+use Rattle.rules.specs.Room.{Room}
 use Rattle.rules.specs.BoxSaysNo.{insertRefusal, removeRefusal}
 use Rattle.rules.specs.SoundMemory.{soundIn}
 use Rattle.rules.specs.Calls.{Call, emptying, inserting, removing, checking, stabbing, readingBand, readingEdge, readingNode, readingRoom}
@@ -24,7 +24,7 @@ use Rattle.rules.proofs.Lists.{In, Each, keep-all}
 use Rattle.rules.proofs.NodesLanesEdges.{Level, NodeAt, EndOf, is-end-of-some-means}
 use Rattle.rules.proofs.Profile.{SameBut, has-number-means}
 use Rattle.rules.proofs.Changes.{at-with-ends, in-with-ends, with-ends-ascend, in-inserted-bands, inserted-bands-ascend, insert-keeps-others, in-bands-left, in-nodes-left, bands-left-ascend, nodes-left-ascend, removed-nodes-no-more, remove-keeps-others}
-use Rattle.rules.proofs.BoxSaysNo.{room-in-range-means, not-sound-fails, BandRight, insert-accepted, remove-accepted, change-keeps}
+use Rattle.rules.proofs.BoxSaysNo.{not-sound-fails, BandRight, insert-accepted, remove-accepted, change-keeps}
 use Rattle.rules.proofs.SoundMemory.{Standing, standing-means, sound-in-means}
 
 -- all nodes of a standing profile are at ends
@@ -92,14 +92,6 @@ without-stands f p s =
 pub removed-stands : (p : Profile) (number : ℕ) → Standing p → Standing (removed p number)
 unfolding removed
 removed-stands p number = without-stands (hasNumber number) p
-
--- an empty profile is sound in every room that is in range
-pub empty-sound : (room : Room) → roomInRange room ≡ true → soundIn room emptyProfile ≡ true
-unfolding marksInUse
-empty-sound room e =
-    let r = room-in-range-means room .fact e in
-    sound-in-means room emptyProfile .test
-    (empty-stands, record { node-room = r .0; mark-room = r .1; nodes-fit = omega arith; marks-fit = omega arith })
 
 -- ---- what a call owes
 
