@@ -18,13 +18,12 @@ use Rattle.store.specs.LaidMemory.{laidMemory}
 use Rattle.store.specs.Sound.{sound}
 use Rattle.store.specs.ChangeIn.{changeIn}
 use Rattle.store.proofs.Sound.{sound-means}
-use Rattle.store.proofs.SaidStands.{sizes-of-sound}
 use Rattle.store.proofs.ChangeIn.{change-says}
 use Rattle.emptying.specs.EmptyCall.{emptyIn}
 use Rattle.emptying.proofs.EmptyExact.{empty-makes}
 use Rattle.demands.specs.Calls.{refusalOf, afterCall, afterCalls}
 use Rattle.demands.specs.Lines.{linesOf}
-use Rattle.demands.proofs.EveryCall.{asks-or-changes}
+use Rattle.demands.proofs.EveryCall.{sound-known, asks-or-changes}
 use Rattle.demands.proofs.KeepsSound.{keeps-sound, keeps-lengths}
 use Rattle.demands.proofs.AlwaysSound.{always-sound}
 
@@ -36,7 +35,7 @@ answers-ruled m s c =
     (λ a. ap (λ (o : Change Memory). o .refusal) (a .comes-to) ∙ a .judged-as-ruled s)
     (λ a. ap (λ (o : Change Memory). o .refusal) (a .comes-to)
     ∙ ap refusalBy (a .judged-as-ruled)
-    ∙ (λ i. callOutcome (sizes-of-sound m s i) (s i) (roomIn m) (saidProfile m) c .refusal))
+    ∙ ap (λ o. o .refusal) (sound-known m s c))
     (asks-or-changes m c)
 
 -- .. and does to the profile what the rules do
@@ -49,7 +48,7 @@ says-ruled m s c =
     (λ a. ap (λ (o : Change Memory). saidProfile (o .after)) (a .comes-to)
     ∙ change-says m (refusalBy (linesOf m c)) (afterAccepted p c) (a .fitting)
     ∙ ap (λ ls. changed (refusalBy ls) p (afterAccepted p c) .after) (a .judged-as-ruled)
-    ∙ (λ i. callOutcome (sizes-of-sound m s i) (s i) (roomIn m) p c .after))
+    ∙ ap (λ o. o .after) (sound-known m s c))
     (asks-or-changes m c)
 
 -- and so do calls one after the other

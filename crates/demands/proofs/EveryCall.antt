@@ -15,6 +15,7 @@ use Rattle.store.specs.Memory.{Memory, lengthsIn, roomIn}
 use Rattle.store.specs.SaidProfile.{saidProfile}
 use Rattle.store.specs.Sound.{sound}
 use Rattle.store.specs.ChangeIn.{changeIn}
+use Rattle.store.proofs.SaidStands.{sizes-of-sound}
 use Rattle.store.proofs.ChangeIn.{Fitting}
 use Rattle.emptying.specs.EmptyCall.{emptyIn}
 use Rattle.inserting.specs.InsertCall.{insertRefusalIn, insertIn}
@@ -30,6 +31,11 @@ use Rattle.inserting.proofs.Accepted.{insert-fitting}
 use Rattle.removing.proofs.Accepted.{remove-fitting}
 use Rattle.demands.specs.Calls.{callIn, refusalOf, afterCall}
 use Rattle.demands.specs.Lines.{linesOf}
+
+-- on sound memory the rules are given that sizes are right and that it is sound
+pub sound-known : (m : Memory) → sound m ≡ true → (c : Call)
+    → callOutcome (sizesRight (lengthsIn m)) (sound m) (roomIn m) (saidProfile m) c ≡ callOutcome true true (roomIn m) (saidProfile m) c
+sound-known m s c = λ i. callOutcome (sizes-of-sound m s i) (s i) (roomIn m) (saidProfile m) c
 
 -- the call asks; on sound memory what it is judged by, which it reads off the words, gives what it gives by the profile that the words say
 pub record Asks (m : Memory) (c : Call) : Type 0 where
