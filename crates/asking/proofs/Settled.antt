@@ -11,11 +11,11 @@ use Rattle.rules.specs.BoxSaysNo.{Answered}
 use Rattle.hall.proofs.OneToOne.{answer-one-to-one, next-key-one-to-one}
 use Rattle.store.proofs.LentWords.{Lent}
 use Rattle.asking.specs.Says.{stabSays, bandReadSays, edgeReadSays, nodeReadSays, roomReadSays}
-use Rattle.asking.specs.declared.stabbing.StabRead.{StabRead}
-use Rattle.asking.specs.declared.band_readout.BandRead.{BandRead}
-use Rattle.asking.specs.declared.edge_readout.EdgeRead.{EdgeRead}
-use Rattle.asking.specs.declared.node_readout.NodeRead.{NodeRead}
-use Rattle.asking.specs.declared.room_readout.RoomRead.{RoomRead}
+use Rattle.hall.specs.declared.reads.StabRead.{StabRead}
+use Rattle.hall.specs.declared.reads.BandRead.{BandRead}
+use Rattle.hall.specs.declared.reads.EdgeRead.{EdgeRead}
+use Rattle.hall.specs.declared.reads.NodeRead.{NodeRead}
+use Rattle.hall.specs.declared.reads.RoomRead.{RoomRead}
 use Rattle.asking.proofs.stabbing.stab.Reads.{Post as stabPromise}
 use Rattle.asking.proofs.band_readout.band.Reads.{Post as bandPromise}
 use Rattle.asking.proofs.edge_readout.edge.Reads.{Post as edgePromise}

@@ -4,11 +4,11 @@ use Rattle.rules.specs.Search.{Stab as RuledStab}
 use Rattle.rules.specs.Readouts.{BandRead as RuledBandRead, EdgeRead as RuledEdgeRead, NodeRead as RuledNodeRead, RoomRead as RuledRoomRead}
 use Rattle.rules.specs.BoxSaysNo.{Answered, saying}
 use Rattle.hall.specs.Says.{answerSays, keySaid, nextSays}
-use Rattle.asking.specs.declared.stabbing.StabRead.{StabRead}
-use Rattle.asking.specs.declared.band_readout.BandRead.{BandRead}
-use Rattle.asking.specs.declared.edge_readout.EdgeRead.{EdgeRead}
-use Rattle.asking.specs.declared.node_readout.NodeRead.{NodeRead}
-use Rattle.asking.specs.declared.room_readout.RoomRead.{RoomRead}
+use Rattle.hall.specs.declared.reads.StabRead.{StabRead}
+use Rattle.hall.specs.declared.reads.BandRead.{BandRead}
+use Rattle.hall.specs.declared.reads.EdgeRead.{EdgeRead}
+use Rattle.hall.specs.declared.reads.NodeRead.{NodeRead}
+use Rattle.hall.specs.declared.reads.RoomRead.{RoomRead}
 
 abbrev pub stabSays : StabRead → Answered RuledStab
 stabSays s =

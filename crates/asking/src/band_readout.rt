@@ -9,18 +9,9 @@ ghost use Rattle.asking.specs.BandCall.{bandIn};
 ghost use Rattle.asking.specs.Says.{bandReadSays};
 use hall::Answer;
 use hall::Band;
+use hall::BandRead;
 use hall::Key;
 use hall::Refusal;
-
-// A live band's scope, ends and closed ends.
-pub struct BandRead {
-    pub answer: Answer,
-    pub scope: u32,
-    pub low: Key,
-    pub high: Key,
-    pub low_closed: bool,
-    pub high_closed: bool,
-}
 
 // The band of a number.
 pub fn band(bands: &[u32], nodes: &[u32], marks: &[u32], number: u32) -> BandRead

@@ -8,16 +8,10 @@ ghost use Rattle.asking.specs.EdgeCall.{keyAt, edgeIn};
 ghost use Rattle.asking.specs.Says.{edgeReadSays};
 use crate::judging::judge_key;
 use hall::Answer;
+use hall::EdgeRead;
 use hall::Key;
 use hall::Next;
 use hall::Refusal;
-
-// The key of the node that comes next in the lane, or none, and the flags marked on the way there.
-pub struct EdgeRead {
-    pub answer: Answer,
-    pub next: Next,
-    pub flags: [u64; 16],
-}
 
 // The edge out of the node at a key in a lane.
 pub fn edge(bands: &[u32], nodes: &[u32], marks: &[u32], key: Key, lane: u32) -> EdgeRead

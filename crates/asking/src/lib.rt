@@ -6,13 +6,8 @@ mod node_readout;
 mod room_readout;
 mod stabbing;
 
-pub use band_readout::BandRead;
 pub use band_readout::band;
-pub use edge_readout::EdgeRead;
 pub use edge_readout::edge;
-pub use node_readout::NodeRead;
 pub use node_readout::node;
-pub use room_readout::RoomRead;
 pub use room_readout::room;
-pub use stabbing::StabRead;
 pub use stabbing::stab;

@@ -8,14 +8,8 @@ ghost use Rattle.asking.specs.Says.{nodeReadSays};
 use crate::judging::judge_key;
 use hall::Answer;
 use hall::Key;
+use hall::NodeRead;
 use hall::Refusal;
-
-// A node's level, and the flags marked there.
-pub struct NodeRead {
-    pub answer: Answer,
-    pub level: u32,
-    pub flags: [u64; 16],
-}
 
 // The node at a key.
 pub fn node(bands: &[u32], nodes: &[u32], marks: &[u32], key: Key) -> NodeRead

@@ -5,13 +5,7 @@ ghost use Rattle.asking.specs.RoomCall.{roomReadIn};
 ghost use Rattle.asking.specs.Says.{roomReadSays};
 use hall::Answer;
 use hall::Refusal;
-
-// Nodes and marks in use.
-pub struct RoomRead {
-    pub answer: Answer,
-    pub nodes: u32,
-    pub marks: u32,
-}
+use hall::RoomRead;
 
 // The room used.
 pub fn room(bands: &[u32], nodes: &[u32], marks: &[u32]) -> RoomRead

@@ -9,16 +9,7 @@ use crate::judging::judge_key;
 use hall::Answer;
 use hall::Key;
 use hall::Refusal;
-
-// Flags and count of the marks met, how many those were, and the looks; zeros throughout beside a refusal. On sound memory the flags are those
-// of the bands that hold the key.
-pub struct StabRead {
-    pub answer: Answer,
-    pub flags: [u64; 16],
-    pub count: u32,
-    pub met: u32,
-    pub looks: u32,
-}
+use hall::StabRead;
 
 // Of the bands only the length is looked at: what is marked is what stands among nodes and marks.
 pub fn stab(bands: &[u32], nodes: &[u32], marks: &[u32], key: Key) -> StabRead

@@ -27,7 +27,10 @@ fn add(mut desk: Desk, band: Band, records: &mut [u32]) -> Done {
 fn scan(card_end: usize, key: Key, records: &[u32]) -> Told {
     let zero = 0;
     let end = lending::end_in(card_end, records);
-    desk_answers::scan_answer(card::scan_words(&records[zero..end], key))
+    let read = card::scan_words(&records[zero..end], key);
+    let answer = read.answer;
+    let flags = read.flags;
+    desk_answers::scan_answer(answer, read.place, flags, read.count)
 }
 
 pub(crate) fn do_card(desk: Desk, command: Command, records: &mut [u32]) -> Done {

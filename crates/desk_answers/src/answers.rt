@@ -2,15 +2,13 @@
 use crate::forms::Told;
 use crate::forms::VALUES;
 use crate::forms::plain;
-use asking::BandRead;
-use asking::EdgeRead;
-use asking::NodeRead;
-use asking::RoomRead;
-use asking::StabRead;
-use card::Scan;
 use hall::Answer;
+use hall::BandRead;
+use hall::EdgeRead;
 use hall::Next;
-use hall::Refusal;
+use hall::NodeRead;
+use hall::RoomRead;
+use hall::StabRead;
 
 // Values that are words, three at most.
 fn words(first: u32, second: u32, third: u32) -> [u64; VALUES] {
@@ -23,17 +21,17 @@ pub fn nothing() -> Told {
 }
 
 pub fn done() -> Told {
-    plain(*b"0.                                      ", [0; VALUES])
+    plain(*b"0\n.                                     ", [0; VALUES])
 }
 
 pub fn help_answer() -> Told {
-    plain(*b"0@.                                     ", [0; VALUES])
+    plain(*b"0 @\n.                                   ", [0; VALUES])
 }
 
 // What is wrong with a line, by its number.
 pub fn fault_answer(fault: u32) -> Told {
     plain(
-        *b"? !.                                    ",
+        *b"? !\n.                                   ",
         words(fault, 0, 0),
     )
 }
@@ -41,32 +39,30 @@ pub fn fault_answer(fault: u32) -> Told {
 // One number beside the 0.
 pub fn number_answer(number: u32) -> Told {
     plain(
-        *b"0 #.                                    ",
+        *b"0 #\n.                                   ",
         words(number, 0, 0),
     )
 }
 
 pub fn check_answer(sound: bool) -> Told {
     if sound {
-        plain(*b"yes.                                    ", [0; VALUES])
+        plain(*b"yes\n.                                   ", [0; VALUES])
     } else {
-        plain(*b"no.                                     ", [0; VALUES])
+        plain(*b"no\n.                                    ", [0; VALUES])
     }
-}
-
-fn refused(refusal: Refusal) -> Told {
-    let number = refusal.number();
-    plain(
-        *b"# $.                                    ",
-        words(number, number, 0),
-    )
 }
 
 // What is told where the call is done, or else its refusal.
 fn unless_refused(answer: Answer, told: Told) -> Told {
     match answer {
         Answer::Done => told,
-        Answer::Refused(refusal) => refused(refusal),
+        Answer::Refused(refusal) => {
+            let number = refusal.number();
+            plain(
+                *b"# $\n.                                   ",
+                words(number, number, 0),
+            )
+        }
     }
 }
 
@@ -78,7 +74,7 @@ pub fn stab_answer(read: StabRead) -> Told {
     let answer = read.answer;
     let flags = read.flags;
     let told = Told {
-        form: *b"0 count # met # looks # bands%.         ",
+        form: *b"0 count # met # looks # bands%\n.        ",
         values: words(read.count, read.met, read.looks),
         flags,
     };
@@ -86,21 +82,18 @@ pub fn stab_answer(read: StabRead) -> Told {
 }
 
 // A scan that is refused tells the place too.
-pub fn scan_answer(read: Scan) -> Told {
-    let answer = read.answer;
-    let place = read.place as u64;
-    let flags = read.flags;
+pub fn scan_answer(answer: Answer, place: usize, flags: [u64; 16], count: u32) -> Told {
     match answer {
         Answer::Done => Told {
-            form: *b"0 place # count # bands%.               ",
-            values: [place, read.count as u64, 0, 0, 0, 0],
+            form: *b"0 place # count # bands%\n.              ",
+            values: [place as u64, count as u64, 0, 0, 0, 0],
             flags,
         },
         Answer::Refused(refusal) => {
             let number = refusal.number() as u64;
             plain(
-                *b"# place # $.                            ",
-                [number, place, number, 0, 0, 0],
+                *b"# place # $\n.                           ",
+                [number, place as u64, number, 0, 0, 0],
             )
         }
     }
@@ -116,7 +109,7 @@ pub fn band_answer(read: BandRead) -> Told {
     let low_bracket = bracket(read.low_closed, b'[', b'(');
     let high_bracket = bracket(read.high_closed, b']', b')');
     let told = plain(
-        *b"0 scope # stretch ^#,#^.                ",
+        *b"0 scope # stretch ^#,#^\n.               ",
         [
             read.scope as u64,
             low_bracket,
@@ -132,12 +125,12 @@ pub fn band_answer(read: BandRead) -> Told {
 fn next_answer(next: Next, flags: [u64; 16]) -> Told {
     match next {
         Next::Key(key) => Told {
-            form: *b"0 next # bands%.                        ",
+            form: *b"0 next # bands%\n.                       ",
             values: words(key.0, 0, 0),
             flags,
         },
         Next::None => Told {
-            form: *b"0 next none bands%.                     ",
+            form: *b"0 next none bands%\n.                    ",
             values: [0; VALUES],
             flags,
         },
@@ -155,7 +148,7 @@ pub fn node_answer(read: NodeRead) -> Told {
     let answer = read.answer;
     let flags = read.flags;
     let told = Told {
-        form: *b"0 level # bands%.                       ",
+        form: *b"0 level # bands%\n.                      ",
         values: words(read.level, 0, 0),
         flags,
     };
@@ -165,7 +158,7 @@ pub fn node_answer(read: NodeRead) -> Told {
 pub fn room_answer(read: RoomRead) -> Told {
     let answer = read.answer;
     let told = plain(
-        *b"0 nodes # marks #.                      ",
+        *b"0 nodes # marks #\n.                     ",
         words(read.nodes, read.marks, 0),
     );
     unless_refused(answer, told)

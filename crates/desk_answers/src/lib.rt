@@ -1,10 +1,8 @@
 // The desk's answers. Each is a form with values, and `tell` puts it as bytes into a buffer that is lent. Nothing is written out here.
 mod answers;
-mod faults;
 mod forms;
-mod names;
-mod refusals;
 mod telling;
+mod texts;
 mod writing;
 
 pub use answers::band_answer;

@@ -1,10 +1,8 @@
 // Answers told as bytes.
-use crate::faults;
 use crate::forms::FORM_WIDTH;
 use crate::forms::Told;
 use crate::forms::VALUES;
-use crate::names;
-use crate::refusals;
+use crate::texts;
 use crate::writing;
 
 // A byte of the form, or the value that it stands for.
@@ -13,9 +11,7 @@ fn put_value(output: &mut [u8], written: usize, byte: u8, value: u64) -> usize {
     match byte {
         b'#' => writing::put_number(output, written, value),
         b'^' => writing::put_byte(output, written, low_byte),
-        b'$' => refusals::put_words(output, written, low_byte),
-        b'!' => faults::put_words(output, written, low_byte),
-        b'@' => names::put_names(output, written),
+        b'$' | b'!' | b'@' => texts::put_text_of(output, written, byte, low_byte),
         _ => writing::put_byte(output, written, byte),
     }
 }
@@ -43,8 +39,8 @@ fn place_after(place: usize, byte: u8) -> usize {
     place
 }
 
-// The form up to its end.
-fn put_form(output: &mut [u8], written: usize, told: Told) -> usize {
+// Puts an answer: its form up to its end.
+pub fn tell(output: &mut [u8], written: usize, told: Told) -> usize {
     let form = told.form;
     let values = told.values;
     let flags = told.flags;
@@ -61,14 +57,4 @@ fn put_form(output: &mut [u8], written: usize, told: Told) -> usize {
         from += 1;
     }
     at
-}
-
-// Puts an answer's line; no byte where it has none.
-pub fn tell(output: &mut [u8], written: usize, told: Told) -> usize {
-    let form = told.form;
-    if form[0] == writing::TEXT_END {
-        return written;
-    }
-    let end = put_form(output, written, told);
-    writing::put_byte(output, end, b'\n')
 }

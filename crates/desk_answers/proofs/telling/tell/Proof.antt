@@ -1,11 +1,11 @@
--- `desk_answers::telling::put_form` is safe and ends. The loop's invariant: what is lent keeps its length.
+-- `desk_answers::telling::tell` is safe and ends. The loop's invariant: what is lent keeps its length.
 -- Assumes nothing.
 use Prim.Native.Nat.{_-_}
 use mathlib.Core.Path.{_≡_}
 use borrow.Author.Needs.{needs}
 use lib.ListN.{length}
-use Rattle.desk_answers.proofs.telling.put_form.Statement.{statement}
-use Rattle.desk_answers.proofs.telling.put_form.Tie as tie
+use Rattle.desk_answers.proofs.telling.tell.Statement.{statement}
+use Rattle.desk_answers.proofs.telling.tell.Tie as tie
 
 abbrev Inv-loop : tie.InvT-loop
 Inv-loop output₀ written form values flags at₀ place₀ from₀ output at place from = length output ≡ length output₀
@@ -49,8 +49,8 @@ same-length-2 c = search needs
 returns-2 : tie.Need-returns-2 Inv-loop μ-loop
 returns-2 c = search needs
 
-pub put-form-spec : {M : Type 1} → statement M
-put-form-spec =
+pub tell-spec : {M : Type 1} → statement M
+tell-spec =
     tie.close
     (tie.spec
     Inv-loop
