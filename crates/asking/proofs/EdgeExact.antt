@@ -18,9 +18,8 @@ use Rattle.rules.proofs.Lists.{In, Some, Each}
 use Rattle.rules.proofs.NodesLanesEdges.{level-there, no-lane-rule}
 use Rattle.rules.proofs.Readouts.{next-none, next-by-edge, edge-flag, no-edge-flags}
 use Rattle.rules.proofs.BoxSaysNo.{edge-accepted, edge-gives-13, accepted-answers}
-use Rattle.rules.proofs.SoundMemory.{Standing}
+use Rattle.rules.proofs.SoundMemory.{Standing, nodes-on-line}
 use Rattle.rules.proofs.Theory.EdgesNest.{in-own-lane}
-use Rattle.rules.proofs.Theory.StretchesOfCalls.{nodes-on-line}
 use Rattle.store.specs.Memory.{Memory}
 use Rattle.store.specs.SaidProfile.{saidProfile}
 use Rattle.store.specs.Sound.{sound}

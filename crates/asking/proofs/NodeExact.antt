@@ -15,7 +15,7 @@ use Rattle.rules.specs.BoxSaysNo.{saying, noNodeRead, nodeReadRefusal, nodeRead
 use Rattle.rules.proofs.Lists.{In, Some, Each}
 use Rattle.rules.proofs.Readouts.{node-read-level, node-flag}
 use Rattle.rules.proofs.BoxSaysNo.{node-accepted, node-gives-13, accepted-answers}
-use Rattle.rules.proofs.Theory.StretchesOfCalls.{nodes-on-line}
+use Rattle.rules.proofs.SoundMemory.{nodes-on-line}
 use Rattle.store.specs.Memory.{Memory}
 use Rattle.store.specs.SaidProfile.{saidProfile}
 use Rattle.store.specs.Sound.{sound}

@@ -4,7 +4,7 @@
 --   Lives             an accepted insert makes the band live as given, a remove ends it, and no other band changes
 --   LevelStays        a node keeps its level while it stands; a made one has the level given
 --   Alone             a call of one machine leaves flags, count and marks met the same at every other machine's keys
---   Local             other bands keep their marks outside the stretches, and gain none there
+--   Local             other bands keep their marks outside the reaches, and gain none there
 -- .. on sound memory:
 --   KeepsSound        every call leaves sound memory sound (and every memory as long as it was)
 -- .. from an empty profile on:

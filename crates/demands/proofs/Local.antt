@@ -1,6 +1,6 @@
--- "Bands other than the call's keep every mark on edges not lying in such a stretch and on nodes not strictly inside one", by the edge and node readouts
--- before and after a change, accepted or refused, on any memory: each mark outside the stretches is kept, and none is gained there. Which bands are the
--- call's is any test on bands; of an insert and a remove it is the number.
+-- Bands other than the call's keep every mark on edges not lying in the reach of a node made or dropped and on nodes not strictly inside one, by the
+-- edge and node readouts before and after a change, accepted or refused, on any memory: each mark outside the reaches is kept, and none is gained there.
+-- Which bands are the call's is any test on bands; of an insert and a remove it is the number.
 -- Assumes nothing.
 use Prim.Native.Nat.{ℕ, _<_}
 use mathlib.Core.Path.{_≡_, refl, sym, subst}
@@ -30,7 +30,7 @@ use Rattle.demands.proofs.ChangesOnly.{ChangesOnly, insert-changes-only
 
 -- ---- what is kept from one memory to another
 
--- the number's marks on edges that lie in no stretch of a touched node, and on nodes strictly inside none, are read in the one memory and, of the same
+-- the number's marks on edges that lie in the reach of no touched node, and on nodes strictly inside none, are read in the one memory and, of the same
 -- edge or node, in the other
 abbrev pub MarksKept : List Node → List Node → ℕ → Memory → Memory → Type 0
 MarksKept both touched number m w = ReadsKept both touched number (edgeIn m) (edgeIn w) (nodeIn m) (nodeIn w)

@@ -1,4 +1,4 @@
--- "What one call can reach": which nodes are made, dropped or present throughout, how far a stretch runs, what lies in one, what bears a
+-- "What one call can reach": which nodes are made, dropped or present throughout, how far a reach runs, what lies in one, what bears a
 -- mark and when answers are alike, to and from membership and arithmetic; so that the Bool rule says what the paper says with its quantifiers.
 -- These laws and the rows of the table are what keep the rule as strong as the paper's: Theory shows that calls meet it, and so would a weaker one.
 -- Assumes nothing.
@@ -16,7 +16,7 @@ use Rattle.rules.specs.NodesLanesEdges.{Node, nodeOf, Edge, edgeOf, edge
 use Rattle.rules.specs.Profile.{Profile}
 use Rattle.rules.specs.Marks.{markedOnEdge, markedOnNode}
 use Rattle.rules.specs.Search.{stabOf}
-use Rattle.rules.specs.Reach.{present, presentBoth, madeOrDropped, Stretch, nearestBefore, nearestAfter, stretchOf, liesIn, strictlyInside, edgeReached, keyReached, edgeBears, nodeBears, answersAlike, OthersAlike, losesInLane, losesOnNode, keepsMarks, othersKeepMarks, reachesOnlyStretches}
+use Rattle.rules.specs.Reach.{present, presentBoth, madeOrDropped, Reach, nearestBefore, nearestAfter, reachOf, liesIn, strictlyInside, edgeReached, keyReached, edgeBears, nodeBears, answersAlike, OthersAlike, losesInLane, losesOnNode, keepsMarks, othersKeepMarks, keepsOutsideReaches}
 use Rattle.rules.proofs.Means.{Means, Fails, reworded, denied, not-means, and-means, and3-means, or-means, then-fails, implies-fails, lt-means, le-means, eq-means, at-most-or-above}
 use Rattle.rules.proofs.Lists.{In, Some, Each, each-cons, any-means, any-fails, all-means, find-means, member-means, same-numbers-means, in-kept, some-or-none, in-append, lane-fails}
 use Rattle.rules.proofs.HallLine.{parts-in-range-means, key-is-its-machines}
@@ -48,7 +48,7 @@ module _ (before after : List Node) (n : Node) where
       (in-append n (keep (λ m. not (present before m)) after) (keep (λ m. not (present after m)) before))
       (⊎-map (made .0) (dropped .0), ⊎-map (made .1) (dropped .1))
 
--- ---- how far a stretch runs
+-- ---- how far a reach runs
 
 -- x is the end of the line where no node is so; else the key of such a node, and no such node is nearer
 abbrev pub Nearest : (Node → Type 0) → (ℕ → ℕ → Type 0) → ℕ → List Node → ℕ → Type 0
@@ -124,39 +124,39 @@ nearest-after h k ns on-line =
     (λ x y. ⊎-elim (λ l. inl (omega arith)) (λ l. inr (omega arith)) (at-most-or-above x y))
     highestKey (nearestAfter h k) refl (λ n ns. refl) ns (λ n i l. omega (arith, on-line n i))
 
--- the stretch of a node runs from the one to the other
-pub stretch-runs : (both : List Node) → Each (λ m. m .key ≤ highestKey) both → (n : Node)
-    → Nearest (TallBefore (n .level) (n .key)) (λ x y. x ≤ y) 0 both (stretchOf both n .from)
-    × Nearest (TallAfter (n .level) (n .key)) (λ x y. y ≤ x) highestKey both (stretchOf both n .to)
-unfolding stretchOf
-stretch-runs both on-line n = (nearest-before (n .level) (n .key) both, nearest-after (n .level) (n .key) both on-line)
+-- the reach of a node runs from the one to the other
+pub reach-runs : (both : List Node) → Each (λ m. m .key ≤ highestKey) both → (n : Node)
+    → Nearest (TallBefore (n .level) (n .key)) (λ x y. x ≤ y) 0 both (reachOf both n .from)
+    × Nearest (TallAfter (n .level) (n .key)) (λ x y. y ≤ x) highestKey both (reachOf both n .to)
+unfolding reachOf
+reach-runs both on-line n = (nearest-before (n .level) (n .key) both, nearest-after (n .level) (n .key) both on-line)
 
--- ---- what lies in a stretch
+-- ---- what lies in a reach
 
--- the edge lies in the stretch
-abbrev pub LiesIn : Edge → Stretch → Type 0
-LiesIn e s = (s .from ≤ e .from) × (e .to ≤ s .to)
+-- the edge lies in the reach
+abbrev pub LiesIn : Edge → Reach → Type 0
+LiesIn e r = (r .from ≤ e .from) × (e .to ≤ r .to)
 
-pub lies-in-means : (e : Edge) (s : Stretch) → Means (liesIn e s) (LiesIn e s)
+pub lies-in-means : (e : Edge) (r : Reach) → Means (liesIn e r) (LiesIn e r)
 unfolding liesIn
-lies-in-means e s = and-means (le-means (s .from) (e .from)) (le-means (e .to) (s .to))
+lies-in-means e r = and-means (le-means (r .from) (e .from)) (le-means (e .to) (r .to))
 
--- the key is strictly inside the stretch
-abbrev pub StrictlyInside : ℕ → Stretch → Type 0
-StrictlyInside k s = (s .from < k) × (k < s .to)
+-- the key is strictly inside the reach
+abbrev pub StrictlyInside : ℕ → Reach → Type 0
+StrictlyInside k r = (r .from < k) × (k < r .to)
 
-pub strictly-inside-means : (k : ℕ) (s : Stretch) → Means (strictlyInside k s) (StrictlyInside k s)
+pub strictly-inside-means : (k : ℕ) (r : Reach) → Means (strictlyInside k r) (StrictlyInside k r)
 unfolding strictlyInside
-strictly-inside-means k s = and-means (lt-means (s .from) k) (lt-means k (s .to))
+strictly-inside-means k r = and-means (lt-means (r .from) k) (lt-means k (r .to))
 
 module _ (both touched : List Node) where
-  pub edge-reached-means : (e : Edge) → Means (edgeReached both touched e) (Some (λ n. LiesIn e (stretchOf both n)) touched)
+  pub edge-reached-means : (e : Edge) → Means (edgeReached both touched e) (Some (λ n. LiesIn e (reachOf both n)) touched)
   unfolding edgeReached
-  edge-reached-means e = any-means (λ n. lies-in-means e (stretchOf both n)) touched
+  edge-reached-means e = any-means (λ n. lies-in-means e (reachOf both n)) touched
 
-  pub key-reached-means : (k : ℕ) → Means (keyReached both touched k) (Some (λ n. StrictlyInside k (stretchOf both n)) touched)
+  pub key-reached-means : (k : ℕ) → Means (keyReached both touched k) (Some (λ n. StrictlyInside k (reachOf both n)) touched)
   unfolding keyReached
-  key-reached-means k = any-means (λ n. strictly-inside-means k (stretchOf both n)) touched
+  key-reached-means k = any-means (λ n. strictly-inside-means k (reachOf both n)) touched
 
 -- ---- what bears a mark
 
@@ -183,7 +183,7 @@ module _ (both touched : List Node) (p q : Profile) (number : ℕ) where
   abbrev pub KeepsInLane : ℕ → Type 0
   KeepsInLane i =
       Each
-      (λ e. (Some (λ n. LiesIn e (stretchOf both n)) touched → ⊥)
+      (λ e. (Some (λ n. LiesIn e (reachOf both n)) touched → ⊥)
       → In e (edgesIn i (p .nodes)) × In number (markedOnEdge p i e)
       → In e (edgesIn i (q .nodes)) × In number (markedOnEdge q i e))
       (edgesIn i (p .nodes))
@@ -192,7 +192,7 @@ module _ (both touched : List Node) (p q : Profile) (number : ℕ) where
   abbrev pub KeepsOnNodes : Type 0
   KeepsOnNodes =
       Each
-      (λ n. (Some (λ m. StrictlyInside (n .key) (stretchOf both m)) touched → ⊥)
+      (λ n. (Some (λ m. StrictlyInside (n .key) (reachOf both m)) touched → ⊥)
       → NodeAt (n .key) (p .nodes) × In number (markedOnNode p (n .key))
       → NodeAt (n .key) (q .nodes) × In number (markedOnNode q (n .key)))
       (p .nodes)
@@ -232,8 +232,8 @@ OthersKeepMarks Own both touched p q =
     × Each (λ b. Own b ⊎ KeepsMarks both touched q p (b .number)) (q .bands)
 
 -- .. with the nodes present both before and after and those made or dropped
-abbrev pub OnlyStretchesReached : (Band → Type 0) → Profile → Profile → Type 0
-OnlyStretchesReached Own p q = OthersKeepMarks Own (presentBoth (p .nodes) (q .nodes)) (madeOrDropped (p .nodes) (q .nodes)) p q
+abbrev pub KeepsOutsideReaches : (Band → Type 0) → Profile → Profile → Type 0
+KeepsOutsideReaches Own p q = OthersKeepMarks Own (presentBoth (p .nodes) (q .nodes)) (madeOrDropped (p .nodes) (q .nodes)) p q
 
 module _ {own : Band → Bool} {Own : Band → Type 0} (m : (b : Band) → Means (own b) (Own b)) where
   pub others-keep-marks-means : (both touched : List Node) (p q : Profile)
@@ -244,9 +244,9 @@ module _ {own : Band → Bool} {Own : Band → Type 0} (m : (b : Band) → Means
       (all-means (λ b. or-means (m b) (keeps-marks-means both touched p q (b .number))) (p .bands))
       (all-means (λ b. or-means (m b) (keeps-marks-means both touched q p (b .number))) (q .bands))
 
-  pub reaches-only-stretches-means : (p q : Profile) → Means (reachesOnlyStretches own p q) (OnlyStretchesReached Own p q)
-  unfolding reachesOnlyStretches
-  reaches-only-stretches-means p q = others-keep-marks-means (presentBoth (p .nodes) (q .nodes)) (madeOrDropped (p .nodes) (q .nodes)) p q
+  pub keeps-outside-reaches-means : (p q : Profile) → Means (keepsOutsideReaches own p q) (KeepsOutsideReaches Own p q)
+  unfolding keepsOutsideReaches
+  keeps-outside-reaches-means p q = others-keep-marks-means (presentBoth (p .nodes) (q .nodes)) (madeOrDropped (p .nodes) (q .nodes)) p q
 
 -- two profiles answer the same at a key
 pub answers-alike-means : (p q : Profile) (k : ℕ)

@@ -3,9 +3,11 @@
 use Prim.Native.Nat.{ℕ, suc, _≤_}
 use mathlib.Core.Path.{_≡_, refl}
 use mathlib.Core.Bool.{true}
+use mathlib.Core.Logic.{⊎-elim}
 use mathlib.Core.List.{List, [], _∷_}
+use native.Mathlib.Omega.{arith}
 use lib.ListN.{length}
-use Rattle.rules.specs.HallLine.{Band}
+use Rattle.rules.specs.HallLine.{Band, highestKey}
 use Rattle.rules.specs.NodesLanesEdges.{Node}
 use Rattle.rules.specs.Profile.{Profile}
 use Rattle.rules.specs.Marks.{marksInUse}
@@ -61,6 +63,13 @@ standing-means p =
       only-ends-stand = h .1 .1 .1 .2;
     })
     (λ s. (s .numbers-ascend, (s .bands-right, (s .keys-ascend, (s .levels-right, s .ends-stand, s .only-ends-stand)))))
+
+-- the nodes of a standing profile are on the line
+pub nodes-on-line : (p : Profile) → Standing p → Each (λ n. n .key ≤ highestKey) (p .nodes)
+nodes-on-line p s n i =
+    let t = s .only-ends-stand n i in
+    let r = s .bands-right (t .0) (t .1) in
+    ⊎-elim (λ e. omega (arith, r .low-on-line)) (λ e. omega (arith, r .high-on-line)) (t .2)
 
 -- the room is in range, and nodes and marks are within it
 pub record Fitting (room : Room) (p : Profile) : Type 0 where

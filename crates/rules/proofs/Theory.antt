@@ -19,9 +19,9 @@
 --   RemoveRefusals    a remove can be refused by 12 and never by 11
 --   OneBand           into an empty profile a right one-key band goes in, and out again, in every room
 --   Lives             a number of no band that has come or gone reads the same; a live band is read as it is
---   Stretches         edges in no stretch and their marks are the same before and after, for any two ascending lists of nodes; nodes too
---   StretchesOfCalls  so of two standing profiles; a change that leaves all bands but some reaches only its stretches, every call among them
---   MarksRead         a mark is read exactly where it stands, so what is kept outside the stretches is kept in what is read
+--   Reaches           edges in no reach and their marks are the same before and after, for any two ascending lists of nodes; nodes too
+--   ReachesOfCalls    so of two standing profiles; bands that a change leaves keep their marks outside its reaches, and every call leaves all but its own
+--   MarksRead         a mark is read exactly where it stands, so what is kept outside the reaches is kept in what is read
 --   LevelsStay        a node that stands before and after keeps its level, by the node readout
 --   Alone             a machine's call leaves flags, count and marks met alone at every other machine's keys
 pub mod EdgesNest
@@ -43,8 +43,8 @@ pub mod NodesPerBand
 pub mod RemoveRefusals
 pub mod OneBand
 pub mod Lives
-pub mod Stretches
-pub mod StretchesOfCalls
+pub mod Reaches
+pub mod ReachesOfCalls
 pub mod MarksRead
 pub mod LevelsStay
 pub mod Alone

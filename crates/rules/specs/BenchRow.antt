@@ -21,7 +21,7 @@ use Rattle.rules.specs.SoundMemory.{soundIn}
 use Rattle.rules.specs.BoxSaysNo.{stabAnswer, bandReadAnswer, edgeReadAnswer, nodeReadAnswer, roomReadAnswer}
 use Rattle.rules.specs.BenchCard.{scanOf}
 use Rattle.rules.specs.Calls.{Call}
-use Rattle.rules.specs.Reach.{answersAlike, stretchOf, reachesOnlyStretches, ofCall}
+use Rattle.rules.specs.Reach.{answersAlike, reachOf, keepsOutsideReaches, ofCall}
 use Rattle.rules.specs.BenchProfile.{callOf}
 
 -- a question and the answer expected; a Bool before a profile says whether sizes are right
@@ -59,13 +59,13 @@ pub data Row : Type 0 where
   -- the room readout: nodes and marks in use; or refused
   inUse : Profile → ℕ → ℕ → Row
   noInUse : Profile → ℕ → Row
-  -- the call is accepted, leaves these bands, nodes and so many marks in use, and other bands keep their marks outside its stretches
+  -- the call is accepted, leaves these bands, nodes and so many marks in use, and other bands keep their marks outside its reaches
   accepted : Room → Profile → Call → List Band → List Node → ℕ → Row
   -- the call is refused by the number and leaves the profile as it was
   refused : Room → Profile → Call → ℕ → Row
-  -- among these nodes the stretch of the node runs from the one key to the other
+  -- among these nodes the reach of the node runs from the one key to the other
   runs : List Node → Node → ℕ → ℕ → Row
-  -- from the one profile to the other, bands but those that pass keep their marks outside the stretches, or do not
+  -- from the one profile to the other, bands but those that pass keep their marks outside the reaches, or do not
   near : (Band → Bool) → Profile → Profile → Bool → Row
   -- both profiles answer alike at the key, or do not
   alike : Profile → Profile → ℕ → Bool → Row
@@ -172,13 +172,13 @@ rowRight (noInUse p refusal) = inUseIs false p refusal 0 0
 rowRight (accepted room p c bs ns m) =
     eqb (callOf room p c .refusal) 0
     and profileIs room (callOf room p c .after) bs ns m
-    and reachesOnlyStretches (ofCall c) p (callOf room p c .after)
+    and keepsOutsideReaches (ofCall c) p (callOf room p c .after)
 rowRight (refused room p c number) =
     eqb (callOf room p c .refusal) number
     and sameBands (callOf room p c .after .bands) (p .bands)
     and sameNodes (callOf room p c .after .nodes) (p .nodes)
-rowRight (runs ns n from to) = eqb (stretchOf ns n .from) from and eqb (stretchOf ns n .to) to
-rowRight (near own p q expected) = Bool·beq (reachesOnlyStretches own p q) expected
+rowRight (runs ns n from to) = eqb (reachOf ns n .from) from and eqb (reachOf ns n .to) to
+rowRight (near own p q expected) = Bool·beq (keepsOutsideReaches own p q) expected
 rowRight (alike p q k expected) = Bool·beq (answersAlike p q k) expected
 rowRight (card bs k number place ns) =
     eqb (scanOf bs k .refusal) number

@@ -250,7 +250,7 @@ acceptedRows =
     (closed 1 0 10 50 ∷ closed 2 0 20 20 ∷ closed 3 0 5 10 ∷ [])
     (nodeOf 5 8 ∷ nodeOf 10 8 ∷ nodeOf 20 7 ∷ nodeOf 50 8 ∷ [])
     7
-    -- two nodes made, or dropped, by one call do not bound each other's stretch
+    -- two nodes made, or dropped, by one call do not bound each other's reach
     ∷ accepted wide around (inserting (closed 3 0 200 300) 2 2)
     (closed 1 0 100 400 ∷ closed 3 0 200 300 ∷ [])
     (nodeOf 100 1 ∷ nodeOf 200 2 ∷ nodeOf 300 2 ∷ nodeOf 400 1 ∷ [])
@@ -319,7 +319,7 @@ reachRows =
     ∷ near (hasScope 1) mapped remapped true
     ∷ near (hasNumber 5) mapped remapped false
     ∷ near (hasScope 1) mapped (profileOf (openLow 1 0 100 400 ∷ closed 4 house 32768 40000 ∷ openHigh 5 1 32768 40000 ∷ []) (remapped .nodes)) false
-    -- a node next to the key at which a stretch begins is strictly inside it: without node 12, node 11 bears band 1
+    -- a node next to the key at which a reach begins is strictly inside it: without node 12, node 11 bears band 1
     ∷ accepted wide nextTo (removing 3 0) (closed 1 0 10 20 ∷ closed 2 0 11 11 ∷ []) (nodeOf 10 2 ∷ nodeOf 11 1 ∷ nodeOf 20 1 ∷ []) 6
     -- looks at machine 1's keys may change by a call of machine 0
     ∷ stab bench 40000 [] 11

@@ -1,4 +1,4 @@
--- "What one call can reach": answers at other machines' keys, and the stretches outside which other bands keep their marks.
+-- "What one call can reach": answers at other machines' keys, and the reaches outside which other bands keep their marks.
 -- Assumes nothing.
 use Prim.Native.Nat.{ℕ, max, min, _<_}
 use mathlib.Core.Path.{_≡_}
@@ -38,13 +38,13 @@ presentBoth before after = keep (present after) before
 unfoldable pub madeOrDropped : List Node → List Node → List Node
 madeOrDropped before after = keep (λ n. not (present before n)) after ++ keep (λ n. not (present after n)) before
 
--- a stretch of the line runs from one key to another
-pub record Stretch : Type 0 where
+-- the reach of a node made or dropped, which the paper calls its stretch, runs from one key to another
+pub record Reach : Type 0 where
   pub from : ℕ
   pub to : ℕ
 
-abbrev pub stretchFrom : ℕ → ℕ → Stretch
-stretchFrom a c = record { from = a; to = c }
+abbrev pub reachFrom : ℕ → ℕ → Reach
+reachFrom a c = record { from = a; to = c }
 
 -- the nearest node of level h or more before k, or the end of the line
 abbrev pub nearestBefore : ℕ → ℕ → List Node → ℕ
@@ -56,25 +56,25 @@ abbrev pub nearestAfter : ℕ → ℕ → List Node → ℕ
 nearestAfter h k [] = highestKey
 nearestAfter h k (n ∷ ns) = min (cond (leb h (n .level) and ltb k (n .key)) (n .key) highestKey) (nearestAfter h k ns)
 
--- the stretch of a node made or dropped, among the nodes present both before and after
-unfoldable pub stretchOf : List Node → Node → Stretch
-stretchOf both n = stretchFrom (nearestBefore (n .level) (n .key) both) (nearestAfter (n .level) (n .key) both)
+-- to the nearest nodes of the node's level or more, among those present both before and after
+unfoldable pub reachOf : List Node → Node → Reach
+reachOf both n = reachFrom (nearestBefore (n .level) (n .key) both) (nearestAfter (n .level) (n .key) both)
 
--- the edge lies in the stretch
-unfoldable pub liesIn : Edge → Stretch → Bool
-liesIn e s = leb (s .from) (e .from) and leb (e .to) (s .to)
+-- the edge lies in the reach
+unfoldable pub liesIn : Edge → Reach → Bool
+liesIn e r = leb (r .from) (e .from) and leb (e .to) (r .to)
 
--- the key is strictly inside the stretch
-unfoldable pub strictlyInside : ℕ → Stretch → Bool
-strictlyInside k s = ltb (s .from) k and ltb k (s .to)
+-- the key is strictly inside the reach
+unfoldable pub strictlyInside : ℕ → Reach → Bool
+strictlyInside k r = ltb (r .from) k and ltb k (r .to)
 
--- the edge lies in a stretch of some node made or dropped
+-- the edge lies in the reach of some node made or dropped
 unfoldable pub edgeReached : List Node → List Node → Edge → Bool
-edgeReached both touched e = any (λ n. liesIn e (stretchOf both n)) touched
+edgeReached both touched e = any (λ n. liesIn e (reachOf both n)) touched
 
--- the key is strictly inside a stretch of some node made or dropped
+-- the key is strictly inside the reach of some node made or dropped
 unfoldable pub keyReached : List Node → List Node → ℕ → Bool
-keyReached both touched k = any (λ n. strictlyInside k (stretchOf both n)) touched
+keyReached both touched k = any (λ n. strictlyInside k (reachOf both n)) touched
 
 -- the number is marked on e, an edge of lane i
 unfoldable pub edgeBears : Profile → ℕ → Edge → ℕ → Bool
@@ -99,7 +99,7 @@ losesOnNode both touched p q number =
     (λ n. not (keyReached both touched (n .key)) and nodeBears p (n .key) number and not (nodeBears q (n .key) number))
     (p .nodes)
 
--- the number keeps every mark on edges not lying in such a stretch and on nodes not strictly inside one
+-- the number keeps every mark on edges not lying in such a reach and on nodes not strictly inside one
 unfoldable pub keepsMarks : List Node → List Node → Profile → Profile → ℕ → Bool
 keepsMarks both touched p q number =
     not (inSomeLane (losesInLane both touched p q number)) and not (losesOnNode both touched p q number)
@@ -111,10 +111,10 @@ othersKeepMarks own both touched p q =
     and all (λ b. own b or keepsMarks both touched q p (b .number)) (q .bands)
 
 -- so it is from p to q, with the nodes present both before and after and those made or dropped
-unfoldable pub reachesOnlyStretches : (Band → Bool) → Profile → Profile → Bool
-reachesOnlyStretches own p q = othersKeepMarks own (presentBoth (p .nodes) (q .nodes)) (madeOrDropped (p .nodes) (q .nodes)) p q
+unfoldable pub keepsOutsideReaches : (Band → Bool) → Profile → Profile → Bool
+keepsOutsideReaches own p q = othersKeepMarks own (presentBoth (p .nodes) (q .nodes)) (madeOrDropped (p .nodes) (q .nodes)) p q
 
--- which bands are the call's own. Making an empty profile is under no rule on stretches, so to it every band is its own
+-- which bands are the call's own. Making an empty profile is under no rule on reaches, so to it every band is its own
 abbrev pub ofCall : Call → Band → Bool
 ofCall emptying b = true
 ofCall (inserting c lowLevel highLevel) b = hasNumber (c .number) b

@@ -101,25 +101,25 @@ fn marks_stand_where_the_paper_says_and_a_search_takes_each_held_band_once() {
     });
 }
 
-/// The stretch of each node made or dropped, to the nearest lasting nodes of which this is so.
-fn stretches(before: &Nodes, after: &Nodes, ends: fn(u32, u32) -> bool) -> Vec<(u32, u32)> {
+/// The reach of each node made or dropped, to the nearest lasting nodes of which this is so.
+fn reaches(before: &Nodes, after: &Nodes, ends: fn(u32, u32) -> bool) -> Vec<(u32, u32)> {
     let lasting: Nodes = before
         .iter()
         .filter(|node| after.contains_key(node.0))
         .map(|(&key, &level)| (key, level))
         .collect();
     let changed = before.iter().chain(after).filter(|node| !lasting.contains_key(node.0));
-    let stretch = |(&key, &level): (&u32, &u32)| {
+    let reach = |(&key, &level): (&u32, &u32)| {
         let is_end = |node: &(&u32, &u32)| ends(*node.1, level);
         let from = lasting.range(..key).rev().find(is_end).map_or(0, |node| *node.0);
         let to = lasting.range(key..).find(is_end).map_or(HIGHEST_KEY, |node| *node.0);
         (from, to)
     };
-    changed.map(stretch).collect()
+    changed.map(reach).collect()
 }
 
 /// Whether bands other than the call's keep every mark out of reach, and gain none there.
-fn are_kept(before: &Profile, after: &Profile, band: Band, reach: &[(u32, u32)]) -> bool {
+fn are_kept(before: &Profile, after: &Profile, band: Band, reaches: &[(u32, u32)]) -> bool {
     let out_of_reach = |profile: &Profile| {
         let is_out = |mark: &&Mark| {
             let is_in = |&(from, to): &(u32, u32)| match mark.slot {
@@ -129,7 +129,7 @@ fn are_kept(before: &Profile, after: &Profile, band: Band, reach: &[(u32, u32)])
                     from <= mark.key && end.is_some_and(|end| end <= to)
                 }
             };
-            mark.band != band.number && !reach.iter().any(is_in)
+            mark.band != band.number && !reaches.iter().any(is_in)
         };
         profile.marks.iter().filter(is_out).copied().collect::<BTreeSet<Mark>>()
     };
@@ -140,9 +140,9 @@ fn are_kept(before: &Profile, after: &Profile, band: Band, reach: &[(u32, u32)])
 fn other_bands_keep_their_marks_out_of_reach_and_not_in_a_shorter_one() {
     let mut is_noticed = false;
     each_change(|before, after, band| {
-        let reach = stretches(&before.nodes, &after.nodes, |other, level| other >= level);
-        assert!(are_kept(before, after, band, &reach));
-        let too_short = stretches(&before.nodes, &after.nodes, |_, _| true);
+        let by_level = reaches(&before.nodes, &after.nodes, |other, level| other >= level);
+        assert!(are_kept(before, after, band, &by_level));
+        let too_short = reaches(&before.nodes, &after.nodes, |_, _| true);
         is_noticed |= !are_kept(before, after, band, &too_short);
     });
     assert!(is_noticed);

@@ -1,5 +1,5 @@
 -- Marks as the readouts tell them: on a standing profile a number is flagged on an edge, or on a node, exactly where it is marked there. So a number
--- that keeps its marks outside the stretches keeps them in what is read, and between two standing profiles that is each number of no band that has
+-- that keeps its marks outside the reaches keeps them in what is read, and between two standing profiles that is each number of no band that has
 -- come or gone. What is flagged or leads on is read where the readout is not refused.
 -- Assumes nothing.
 use Prim.Native.Nat.{ℕ, zero, suc, _<_}
@@ -25,10 +25,10 @@ use Rattle.rules.proofs.Marks.{in-marked-on-edge, in-marked-on-node}
 use Rattle.rules.proofs.Flags.{flag-set-where-in, flags-of-none}
 use Rattle.rules.proofs.Readouts.{next-by-edge, edge-flag, node-flag}
 use Rattle.rules.proofs.BoxSaysNo.{edge-accepted, node-accepted, accepted-answers, refused-zeros}
-use Rattle.rules.proofs.SoundMemory.{Standing}
+use Rattle.rules.proofs.SoundMemory.{Standing, nodes-on-line}
 use Rattle.rules.proofs.Reach.{KeepsMarks}
-use Rattle.rules.proofs.Theory.Stretches.{Clear, ClearAt}
-use Rattle.rules.proofs.Theory.StretchesOfCalls.{nodes-on-line, standing-sides, other-number-keeps-marks}
+use Rattle.rules.proofs.Theory.Reaches.{Clear, ClearAt}
+use Rattle.rules.proofs.Theory.ReachesOfCalls.{standing-sides, other-number-keeps-marks}
 
 -- ---- what is read is not refused
 
@@ -136,7 +136,7 @@ module _ (p : Profile) (s : Standing p) where
 
 -- ---- what is kept is read
 
--- of two ways to read edges and nodes: a number's marks on edges that lie in no stretch of a touched node, and on nodes strictly inside none, are read
+-- of two ways to read edges and nodes: a number's marks on edges that lie in the reach of no touched node, and on nodes strictly inside none, are read
 -- by the one and, of the same edge or node, by the other
 pub record ReadsKept (both touched : List Node) (number : ℕ) (edges edges′ : ℕ → ℕ → Answered EdgeRead) (nodes nodes′ : ℕ → Answered NodeRead) : Type 0 where
   pub on-edge : (x y lane : ℕ) → Clear both touched (edgeOf x y)
@@ -151,7 +151,7 @@ ProfileReadsKept both touched number p q =
     ReadsKept both touched number (edgeReadAnswer true p) (edgeReadAnswer true q) (nodeReadAnswer true p) (nodeReadAnswer true q)
 
 module _ (both touched : List Node) (p q : Profile) (before : Standing p) (after : Standing q) (number : ℕ) (h : number < flagCount) where
-  -- a number that keeps its marks outside the stretches keeps them in what is read
+  -- a number that keeps its marks outside the reaches keeps them in what is read
   pub marks-kept-read : KeepsMarks both touched p q number → ProfileReadsKept both touched number p q
   unfolding nodeReadAnswer
   marks-kept-read keeps = record { on-edge = on-edge; on-node = on-node }

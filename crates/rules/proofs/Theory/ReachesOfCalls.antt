@@ -1,13 +1,13 @@
--- "What one call can reach", the stretches, for any two standing profiles: a band that is live in both keeps every mark outside the stretches
--- and gains none there. A change that leaves all bands but those that pass a test reaches only stretches, and every call is such, with the test for its own.
+-- "What one call can reach", the reaches, for any two standing profiles: a band that is live in both keeps every mark outside the reaches
+-- and gains none there. So do, at a change that leaves all bands but those that pass a test, the bands that do not pass; every call is such a change,
+-- with the test for its own.
 -- Assumes nothing.
-use Prim.Native.Nat.{ℕ, _≤_}
+use Prim.Native.Nat.{ℕ}
 use mathlib.Core.Path.{_≡_, sym, subst}
 use mathlib.Core.Bool.{Bool, true}
-use mathlib.Core.Logic.{Iff·rfl, ⊎-elim, ⊎-map}
+use mathlib.Core.Logic.{Iff·rfl, ⊎-map}
 use mathlib.Core.List.{List}
-use native.Mathlib.Omega.{arith}
-use Rattle.rules.specs.HallLine.{Band, highestKey}
+use Rattle.rules.specs.HallLine.{Band}
 use Rattle.rules.specs.NodesLanesEdges.{Node, Edge}
 use Rattle.rules.specs.Profile.{Profile}
 use Rattle.rules.specs.Marks.{markedOnEdge, markedOnNode}
@@ -15,24 +15,17 @@ use Rattle.rules.specs.Room.{Room}
 use Rattle.rules.specs.BoxSaysNo.{changed}
 use Rattle.rules.specs.Calls.{Call}
 use Rattle.rules.specs.RuledCalls.{afterAccepted, callOutcome}
-use Rattle.rules.specs.Reach.{presentBoth, madeOrDropped, othersKeepMarks, reachesOnlyStretches, ofCall}
+use Rattle.rules.specs.Reach.{presentBoth, madeOrDropped, othersKeepMarks, keepsOutsideReaches, ofCall}
 use Rattle.rules.proofs.Means.{Means, so-or-not, itself}
 use Rattle.rules.proofs.Lists.{In, Each, ascends-once}
 use Rattle.rules.proofs.NodesLanesEdges.{NodeAt}
 use Rattle.rules.proofs.Profile.{SameBut, NoneBy}
 use Rattle.rules.proofs.Marks.{node-mark-rule, in-marked-on-edge, in-marked-on-node}
 use Rattle.rules.proofs.BoxSaysNo.{change-keeps}
-use Rattle.rules.proofs.SoundMemory.{Standing}
+use Rattle.rules.proofs.SoundMemory.{Standing, nodes-on-line}
 use Rattle.rules.proofs.Theory.StandingKept.{call-owed}
 use Rattle.rules.proofs.Reach.{KeepsMarks, others-keep-marks-means}
-use Rattle.rules.proofs.Theory.Stretches.{Side, sides, Clear, ClearAt, clear-edge-stays, edge-mark-stays, node-mark-stays, held-node-stays}
-
--- the nodes of a standing profile are on the line
-pub nodes-on-line : (p : Profile) → Standing p → Each (λ n. n .key ≤ highestKey) (p .nodes)
-nodes-on-line p s n i =
-    let t = s .only-ends-stand n i in
-    let r = s .bands-right (t .0) (t .1) in
-    ⊎-elim (λ e. omega (arith, r .low-on-line)) (λ e. omega (arith, r .high-on-line)) (t .2)
+use Rattle.rules.proofs.Theory.Reaches.{Side, sides, Clear, ClearAt, clear-edge-stays, edge-mark-stays, node-mark-stays, held-node-stays}
 
 -- one way, from p to q: a number keeps its marks where each band of p that has it is live in q
 module _ (both touched : List Node) (p q : Profile) (after : Standing q)
@@ -65,7 +58,7 @@ module _ (both touched : List Node) (p q : Profile) (after : Standing q)
 module _ (both touched : List Node) (p q : Profile) (before : Standing p) (after : Standing q)
     (s : Side both touched (p .nodes) (q .nodes)) (o : Side both touched (q .nodes) (p .nodes)) where
   -- where each band that is not so is live in both of two standing profiles or in neither, a number of no band that is so keeps every mark outside
-  -- the stretches, and gains none there ..
+  -- the reaches, and gains none there ..
   pub other-number-keeps-marks : {P : Band → Type 0} → SameBut P p q → (number : ℕ) → NoneBy P number p → NoneBy P number q
       → KeepsMarks both touched p q number × KeepsMarks both touched q p number
   other-number-keeps-marks same number none-before none-after = (
@@ -101,24 +94,24 @@ standing-sides p q before after =
     sides (p .nodes) (q .nodes) (before .keys-ascend) (after .keys-ascend) (nodes-on-line p before) (nodes-on-line q after)
 
 module _ {own : Band → Bool} {Own : Band → Type 0} (m : (b : Band) → Means (own b) (Own b)) where
-  -- where each band that does not pass is live in both or in neither, only stretches are reached
-  pub only-stretches-reached : (p q : Profile) → Standing p → Standing q → SameBut Own p q → reachesOnlyStretches own p q ≡ true
-  unfolding reachesOnlyStretches
-  only-stretches-reached p q before after same =
+  -- where each band that does not pass is live in both or in neither, such bands keep every mark outside the reaches, and gain none there
+  pub outside-reaches-kept : (p q : Profile) → Standing p → Standing q → SameBut Own p q → keepsOutsideReaches own p q ≡ true
+  unfolding keepsOutsideReaches
+  outside-reaches-kept p q before after same =
       let s = standing-sides p q before after in
       others-keep-marks (presentBoth (p .nodes) (q .nodes)) (madeOrDropped (p .nodes) (q .nodes)) p q before after (s .0) (s .1) m same
 
-  -- so a change, accepted or refused, reaches only stretches, where, if nothing refuses it, the profile after it stands and only bands that pass come or go
-  pub change-reaches-only-stretches : (refusal : ℕ) (p q : Profile) → Standing p → (refusal ≡ 0 → Standing q × SameBut Own p q)
-      → reachesOnlyStretches own p (changed refusal p q .after) ≡ true
-  change-reaches-only-stretches refusal p q s after =
-      change-keeps (λ r. reachesOnlyStretches own p r ≡ true) refusal p q
-      (only-stretches-reached p p s s (λ b off. Iff·rfl))
-      (λ z. only-stretches-reached p q s (after z .0) (after z .1))
+  -- so it is at a change, accepted or refused, where, if nothing refuses it, the profile after it stands and only bands that pass come or go
+  pub change-keeps-outside-reaches : (refusal : ℕ) (p q : Profile) → Standing p → (refusal ≡ 0 → Standing q × SameBut Own p q)
+      → keepsOutsideReaches own p (changed refusal p q .after) ≡ true
+  change-keeps-outside-reaches refusal p q s after =
+      change-keeps (λ r. keepsOutsideReaches own p r ≡ true) refusal p q
+      (outside-reaches-kept p p s s (λ b off. Iff·rfl))
+      (λ z. outside-reaches-kept p q s (after z .0) (after z .1))
 
--- .. and so does every call, with the bands that are its own: one that only reads has none, and reaches nothing
-pub call-reaches-only-stretches : (sizesRight sound : Bool) (room : Room) (p : Profile) → Standing p
-    → (c : Call) → reachesOnlyStretches (ofCall c) p (callOutcome sizesRight sound room p c .after) ≡ true
-call-reaches-only-stretches sizesRight sound room p s c =
-    change-reaches-only-stretches (λ b. itself (ofCall c b)) (callOutcome sizesRight sound room p c .refusal) p (afterAccepted p c) s
+-- .. and at every call, where the bands that are its own pass: one that only reads has none, and reaches nothing
+pub call-keeps-outside-reaches : (sizesRight sound : Bool) (room : Room) (p : Profile) → Standing p
+    → (c : Call) → keepsOutsideReaches (ofCall c) p (callOutcome sizesRight sound room p c .after) ≡ true
+call-keeps-outside-reaches sizesRight sound room p s c =
+    change-keeps-outside-reaches (λ b. itself (ofCall c b)) (callOutcome sizesRight sound room p c .refusal) p (afterAccepted p c) s
     (λ z. let owed = call-owed sizesRight sound room p c z in (owed .stands s, owed .others-stay))

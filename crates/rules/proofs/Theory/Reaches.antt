@@ -1,5 +1,5 @@
--- "What one call can reach", the stretches, for any two ascending lists of nodes on the line, whatever is made, dropped, or made again:
--- an edge that lies in no stretch is an edge of its lane both before and after, so marks outside the stretches are the same, both ways.
+-- "What one call can reach", the reaches, for any two ascending lists of nodes on the line, whatever is made, dropped, or made again:
+-- an edge that lies in no reach is an edge of its lane both before and after, so marks outside the reaches are the same, both ways.
 -- Assumes nothing.
 use Prim.Native.Nat.{ℕ, _≤_, _<_}
 use mathlib.Core.Path.{_≡_}
@@ -10,14 +10,14 @@ use native.Mathlib.Omega.{arith}
 use Rattle.rules.specs.HallLine.{Band, highestKey, holds}
 use Rattle.rules.specs.NodesLanesEdges.{Node, Edge, laneOf, edgesIn}
 use Rattle.rules.specs.Marks.{edgeMarked, nodeMarked}
-use Rattle.rules.specs.Reach.{presentBoth, madeOrDropped, stretchOf}
+use Rattle.rules.specs.Reach.{presentBoth, madeOrDropped, reachOf}
 use Rattle.rules.proofs.Means.{so-or-not, same-test, at-most-or-above}
 use Rattle.rules.proofs.Lists.{In, Some, Each}
 use Rattle.rules.proofs.HallLine.{held-between}
 use Rattle.rules.proofs.NodesLanesEdges.{NodeAt, in-lane, Asc, Joins, edge-rule}
 use Rattle.rules.proofs.Marks.{Contains, PassesOver, edge-mark-rule, node-mark-rule}
 use Rattle.rules.proofs.Theory.EdgesNest.{in-own-lane, joins}
-use Rattle.rules.proofs.Reach.{present-means, in-present-both, in-made-or-dropped, stretch-runs, LiesIn, StrictlyInside}
+use Rattle.rules.proofs.Reach.{present-means, in-present-both, in-made-or-dropped, reach-runs, LiesIn, StrictlyInside}
 
 -- One side of a change, here, and the other, there: the nodes here ascend on the line, those present on both sides are among them,
 -- and each of them stands there too or is touched. Here may be before the call or after it, so each law below reads both ways.
@@ -48,13 +48,13 @@ sides before after a c l m = (
 )
 
 module _ (both touched : List Node) where
-  -- the edge lies in no stretch of a touched node
+  -- the edge lies in the reach of no touched node
   abbrev pub Clear : Edge → Type 0
-  Clear e = Some (λ n. LiesIn e (stretchOf both n)) touched → ⊥
+  Clear e = Some (λ n. LiesIn e (reachOf both n)) touched → ⊥
 
-  -- the key is strictly inside no such stretch
+  -- the key is strictly inside no such reach
   abbrev pub ClearAt : ℕ → Type 0
-  ClearAt k = Some (λ n. StrictlyInside k (stretchOf both n)) touched → ⊥
+  ClearAt k = Some (λ n. StrictlyInside k (reachOf both n)) touched → ⊥
 
   -- an edge that contains a clear one is clear ..
   clear-around : (e f : Edge) → Contains f e → Clear e → Clear f
@@ -75,10 +75,10 @@ module _ (both touched : List Node) where
       to-on-line : e .to ≤ highestKey
       to-on-line = let t = in-lane j (e .to) here .0 (along .to-in) in omega (arith, s .on-line (t .0) (t .1), t .2)
 
-      -- an edge of a lane here lies in the stretch of any node of the lane, here or there, from one end of the edge to the other
-      pub stretch-covers : (n : Node) → j < n .level → e .from ≤ n .key → n .key ≤ e .to → LiesIn e (stretchOf both n)
-      stretch-covers n l u v =
-          let r = stretch-runs both both-on-line n in (
+      -- an edge of a lane here lies in the reach of any node of the lane, here or there, from one end of the edge to the other
+      pub reach-covers : (n : Node) → j < n .level → e .from ≤ n .key → n .key ≤ e .to → LiesIn e (reachOf both n)
+      reach-covers n l u v =
+          let r = reach-runs both both-on-line n in (
             ⊎-elim
                 (λ h. omega (arith, h .1))
                 (λ h. ⊎-elim (λ w. omega (arith, h .0 .2)) (λ w. absurd (omega (arith, h .0 .2))) (outside (h .0 .0) (h .0 .1) (h .0 .2 .0 .0)))
@@ -99,10 +99,10 @@ module _ (both touched : List Node) where
           let t = in-lane j k xs .0 i in
           ⊎-elim
           (λ y. in-lane j k ys .1 (t .0, y, t .2))
-          (λ y. absurd (clear (t .0, y, stretch-covers (t .0) (t .2 .0) (omega (arith, t .2)) (omega (arith, t .2)))))
+          (λ y. absurd (clear (t .0, y, reach-covers (t .0) (t .2 .0) (omega (arith, t .2)) (omega (arith, t .2)))))
           (h (t .0) (t .1))
 
-      -- an edge that lies in no stretch is an edge of its lane on the other side too
+      -- an edge that lies in no reach is an edge of its lane on the other side too
       pub clear-edge-stays : Side both touched there here → Clear e → In e (edgesIn j there)
       clear-edge-stays o clear =
           edge-rule j 0 e there (o .ascends) .1
@@ -118,15 +118,15 @@ module _ (both touched : List Node) where
           apart k i (inr u) (inl v) = inr v
           apart k i (inr u) (inr v) = along .none-between k (same-keys clear there here (o .stands-or-touched) k i (omega arith) (omega arith))
 
-    -- a node's key is strictly inside the node's own stretch, unless it is an end of the line
-    pub inside-own : (n : Node) (k : ℕ) → n .key ≡ k → 0 < k → k < highestKey → StrictlyInside k (stretchOf both n)
+    -- a node's key is strictly inside the node's own reach, unless it is an end of the line
+    pub inside-own : (n : Node) (k : ℕ) → n .key ≡ k → 0 < k → k < highestKey → StrictlyInside k (reachOf both n)
     inside-own n k p l u =
-        let r = stretch-runs both both-on-line n in (
+        let r = reach-runs both both-on-line n in (
           ⊎-elim (λ h. omega (arith, h .1)) (λ h. omega (arith, h .0 .2)) (r .0),
           ⊎-elim (λ h. omega (arith, h .1)) (λ h. omega (arith, h .0 .2)) (r .1),
         )
 
-    -- a node that a band holds and that is strictly inside no stretch stands on the other side too, where the band's ends stand:
+    -- a node that a band holds and that is strictly inside no reach stands on the other side too, where the band's ends stand:
     -- a held key that is an end of the line is an end of the band
     pub held-node-stays : (b : Band) → b .high ≤ highestKey → NodeAt (b .low) there × NodeAt (b .high) there
         → (k : ℕ) → ClearAt k → holds b k ≡ true → NodeAt k here → NodeAt k there
@@ -139,7 +139,7 @@ module _ (both touched : List Node) where
         at-end i (inr z) (inr w) = absurd (clear (t .0, i, inside-own (t .0) k (t .2) z w))
 
   module _ (here there : List Node) (s : Side both touched here there) (o : Side both touched there here) (b : Band) where
-    -- a band's mark on an edge that lies in no stretch stays on the other side ..
+    -- a band's mark on an edge that lies in no reach stays on the other side ..
     pub edge-mark-stays : (i : ℕ) (e : Edge) → Clear e → edgeMarked here b i e ≡ true → edgeMarked there b i e ≡ true
     edge-mark-stays i e clear h =
         let r = edge-mark-rule here b i e .fact h in
@@ -156,7 +156,7 @@ module _ (both touched : List Node) where
 -- For any two ascending lists of nodes on the line, before and after:
 module _ (before after : List Node) (a : Asc 0 before) (c : Asc 0 after)
     (l : Each (λ n. n .key ≤ highestKey) before) (m : Each (λ n. n .key ≤ highestKey) after) (b : Band) where
-  -- an edge that lies in no stretch is an edge of its lane before exactly when it is one after, and bears the same marks ..
+  -- an edge that lies in no reach is an edge of its lane before exactly when it is one after, and bears the same marks ..
   pub same-marks-on-edge : (i : ℕ) (e : Edge) → Clear (presentBoth before after) (madeOrDropped before after) e
       → (In e (edgesIn i before) ↔ In e (edgesIn i after)) × (edgeMarked before b i e ≡ edgeMarked after b i e)
   same-marks-on-edge i e clear =
