@@ -10,11 +10,8 @@ use hall::Reading;
 // The highest number that a reading's kind has room for.
 const HIGHEST_WORD: u32 = 65535;
 
-fn made(machine: u32, sensor: u32, reading: u32) -> Read {
-    if HIGHEST_WORD < reading {
-        return numbers::wrong(Fault::NO_SUCH_KEY);
-    }
-    match Key::of(machine, sensor, Reading(reading as u16)) {
+fn made(machine: u32, sensor: u32, reading: Reading) -> Read {
+    match Key::of(machine, sensor, reading) {
         Made::At(key) => numbers::right(key.0),
         Made::NoSuchKey => numbers::wrong(Fault::NO_SUCH_KEY),
     }
@@ -25,11 +22,18 @@ fn of_parts(machine: &[u8], sensor: &[u8], reading: &[u8]) -> Read {
     let machine_read = numbers::number_of(machine);
     let sensor_read = numbers::number_of(sensor);
     let reading_read = numbers::number_of(reading);
-    if machine_read.is_number() & sensor_read.is_number() & reading_read.is_number() {
-        made(machine_read.number, sensor_read.number, reading_read.number)
-    } else {
-        numbers::wrong(Fault::NOT_A_KEY)
+    let counts = reading_read.number;
+    if !(machine_read.is_number() & sensor_read.is_number() & reading_read.is_number()) {
+        return numbers::wrong(Fault::NOT_A_KEY);
     }
+    if HIGHEST_WORD < counts {
+        return numbers::wrong(Fault::NO_SUCH_KEY);
+    }
+    made(
+        machine_read.number,
+        sensor_read.number,
+        Reading(counts as u16),
+    )
 }
 
 fn of_number(word: &[u8]) -> Read {

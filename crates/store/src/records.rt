@@ -47,18 +47,18 @@ fn put_fields(
     number: usize,
     live: u32,
     scope: u32,
-    low: u32,
-    high: u32,
+    low: Key,
+    high: Key,
     low_closed: u32,
     high_closed: u32,
 )
     requires { ⌜ number < 2 ^ 32 ⌝ }
-    ensures { λ _. ⌜ now (bands .exit) ≡ withFields number live scope low high «low_closed» «high_closed» (now (bands .entry)) ⌝ }
+    ensures { λ _. ⌜ now (bands .exit) ≡ withFields number live scope (low .0) (high .0) «low_closed» «high_closed» (now (bands .entry)) ⌝ }
 {
     places::put_band_word(bands, number, places::LIVE, live as usize);
     places::put_band_word(bands, number, places::SCOPE, scope as usize);
-    places::put_band_word(bands, number, places::LOW, low as usize);
-    places::put_band_word(bands, number, places::HIGH, high as usize);
+    places::put_band_word(bands, number, places::LOW, low.0 as usize);
+    places::put_band_word(bands, number, places::HIGH, high.0 as usize);
     places::put_band_word(bands, number, places::LOW_CLOSED, low_closed as usize);
     places::put_band_word(bands, number, places::HIGH_CLOSED, high_closed as usize);
 }
@@ -73,8 +73,8 @@ pub fn put_band(bands: &mut [u32], band: Band)
         band.number as usize,
         live,
         band.scope,
-        band.low.0,
-        band.high.0,
+        band.low,
+        band.high,
         word_of(band.low_closed),
         word_of(band.high_closed),
     );
@@ -85,5 +85,5 @@ pub fn drop_band(bands: &mut [u32], number: usize)
     requires { ⌜ number < 2 ^ 32 ⌝ }
     ensures { λ _. ⌜ now (bands .exit) ≡ withPlaceOf none number (now (bands .entry)) ⌝ }
 {
-    put_fields(bands, number, 0, 0, 0, 0, 0, 0);
+    put_fields(bands, number, 0, 0, Key(0), Key(0), 0, 0);
 }

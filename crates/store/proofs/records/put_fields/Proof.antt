@@ -11,8 +11,14 @@ put-band-word-requires c κs = search needs
 put-band-word-requires-2 : tie.Need-put-band-word-requires-2
 put-band-word-requires-2 c κs = search needs
 
+cast-low : tie.Need-cast-put-band-word
+cast-low c = search needs
+
 put-band-word-requires-3 : tie.Need-put-band-word-requires-3
 put-band-word-requires-3 c κs = search needs
+
+cast-high : tie.Need-cast-put-band-word-2
+cast-high c = search needs
 
 put-band-word-requires-4 : tie.Need-put-band-word-requires-4
 put-band-word-requires-4 c κs = search needs
@@ -32,8 +38,8 @@ returns c =
     let sixth = c .before .before in
     let fifth = sixth .before .before .before .before in
     let fourth = fifth .before .before .before .before in
-    let third = fourth .before .before .before .before in
-    let second = third .before .before .before .before in
+    let third = fourth .before .before .before .before .before in
+    let second = third .before .before .before .before .before in
     let first = second .before .before .before .before in
     rw (
       sixth .put-band-word6 .ensures,
@@ -50,7 +56,9 @@ put-fields-spec =
     (tie.spec
     put-band-word-requires
     put-band-word-requires-2
+    cast-low
     put-band-word-requires-3
+    cast-high
     put-band-word-requires-4
     put-band-word-requires-5
     put-band-word-requires-6
