@@ -24,7 +24,7 @@ use Rattle.marking.proofs.Linked.{Linked}
 use Rattle.marking.proofs.StaircasesLay.{marks-count, all-slots, slot-starts}
 use Rattle.checking.specs.MarkPlaces.{marksInUseRight, fenceRight, fencesRight, marksStand, marksRight}
 
--- each fence stands past the marks of the nodes before its own and of the slots before its own
+-- each fence counts the marks of the nodes before its own and of the slots before its own
 abbrev pub FencesLaid : List ℕ → List ℕ → Type 0
 FencesLaid bands nodes =
     (j : ℕ) (n : Node) (rest : List Node) → drop j (saidNodes nodes) ≡ n ∷ rest → (s : ℕ) → s ≤ slotsPerNode
@@ -53,7 +53,7 @@ module _ (bands nodes marks : List ℕ) (linked : Linked nodes) (stands : Standi
       (le-means (marksInUse (saidBy bands nodes)) (length marks))
       (eq-means (nodeField nodes header marksInUseField) (marksInUse (saidBy bands nodes))))
 
-  -- fence s of place i stands where the slot's marks start
+  -- fence s of place i is the slot's start
   abbrev AtStart : ℕ → ℕ → Type 0
   AtStart i s = nodeField nodes i (fenceField s) ≡ startOf (slotNumber (i - 1) s) asked
 
@@ -62,14 +62,14 @@ module _ (bands nodes marks : List ℕ) (linked : Linked nodes) (stands : Standi
   place-fences-mean i =
       all-from-means 0 (suc slotsPerNode) (λ s a b. eq-means (nodeField nodes i (fenceField s)) (startOf (slotNumber (i - 1) s) asked))
 
-  -- the start of a slot is where its fence is laid
+  -- the start of a slot is its fence as it is laid
   start-laid : (j : ℕ) (n : Node) (rest : List Node) → drop j (saidNodes nodes) ≡ n ∷ rest → (s : ℕ) → s ≤ slotsPerNode
       → startOf (slotNumber (suc j - 1) s) asked
       ≡ fenceOf (saidBy bands nodes) j n rest s
   start-laid j n rest at s l =
       let same : suc j - 1 ≡ j = omega arith in rw same (slot-starts bands nodes linked stands j n rest at s l)
 
-  -- so the fences stand at the starts exactly when they are laid
+  -- so the fences are the starts exactly when they are laid
   fences-mean : Means (fencesRight nodes asked) (FencesLaid bands nodes)
   unfolding fencesRight
   fences-mean =

@@ -17,7 +17,7 @@ use Rattle.marking.specs.Staircases.{staircases}
 unfoldable pub marksInUseRight : List ℕ → ℕ → ℕ → Bool
 marksInUseRight nodes room count = leb count room and eqb (nodeField nodes header marksInUseField) count
 
--- fence s of place i stands where the marks of that slot start; the tenth where the node's marks end
+-- fence s of place i is the start of that slot; the tenth is how many marks stand up to the node's last
 unfoldable pub fenceRight : List ℕ → List Mark → ℕ → ℕ → Bool
 fenceRight nodes ms i s = eqb (nodeField nodes i (fenceField s)) (startOf (slotNumber (i - 1) s) ms)
 

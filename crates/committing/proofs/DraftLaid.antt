@@ -1,5 +1,5 @@
 -- From the draft of a standing profile's nodes to the profile's node words: the marks counted once the links are laid are the profile's; with
--- them in the header and the fences laid at the starts the draft is those words, and the starts are those of its own staircases.
+-- them in the header and the fences laid as the starts say the draft is those words, and the starts are those of its own staircases.
 -- Assumes nothing.
 use Prim.Native.Nat.{ℕ, zero, suc, _+_, _*_, _/_, _%_, _≤_, _<_}
 use mathlib.Core.Path.{_≡_, refl, sym, _∙_, ap, subst}

@@ -70,7 +70,7 @@ module _ (old starts : List ℕ) {new : List ℕ} (laid : HasFields (length old)
   unfolding fencedField
   free-unfenced i f l h = told-kept old laid i f l (rw (false-and _ _ (inr (false-and _ _ (inl (lt-leb i (inUse old) h))))))
 
-  -- each fence of a place in use is where its slot starts
+  -- each fence of a place in use is the start of its slot
   pub fence-there : (j s : ℕ) → suc j ≤ inUse old → (inUse old + 1) * nodePlaceWords ≤ length old → s ≤ slotsPerNode
       → nodeField new (suc j) (fenceField s) ≡ getD starts (slotNumber j s) 0
   unfolding fencedField

@@ -15,6 +15,6 @@ committed m after = changeIn m (fitRefusal (roomIn m) after) after
 
 -- ---- as the code goes about it
 
--- where the marks of each slot start, by counting from these cursors on
+-- the start of each slot, by counting from these cursors on
 unfoldable pub startsBy : List ℕ → List ℕ → List ℕ → List ℕ
 startsBy cursors bands nodes = startsFrom 0 (counted cursors (slotsOfMarks (staircases bands nodes)))

@@ -1,4 +1,4 @@
--- Node words once the fences of each node in use are laid, each where the marks of its slot start; every other word as it was.
+-- Node words once the fences of each node in use are laid, each the start of its slot; every other word as it was.
 -- Assumes nothing.
 use Prim.Native.Nat.{ℕ, _-_}
 use mathlib.Core.Bool.{Bool, cond}
@@ -13,7 +13,7 @@ use Rattle.store.specs.Places.{nodeField, fenceField, inUse}
 abbrev pub isFence : ℕ → Bool
 isFence f = leb (fenceField 0) f
 
--- where the slot of a place's fence starts; the tenth is where the node's marks end
+-- the start of the slot of a place's fence; the tenth is how many marks stand up to the node's last
 abbrev pub startAt : List ℕ → ℕ → ℕ → ℕ
 startAt starts i f = getD starts (slotNumber (i - 1) (f - fenceField 0)) 0
 

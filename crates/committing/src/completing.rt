@@ -18,7 +18,7 @@ use hall::Answer;
 use hall::Refusal;
 
 // Judges 11, lays the links, counts the marks and judges 12; where neither is given it completes the draft with header and fences. The cursors are then
-// where the marks of each slot start.
+// the starts of the slots.
 pub(crate) fn complete(
     draft_bands: &[u32],
     draft_nodes: &mut [u32],

@@ -1,4 +1,4 @@
-// Laying the fences, where it is known where the marks of each slot start.
+// Laying the fences, where the start of each slot is known.
 ghost use Prim.Native.Nat.{_*_, _≤_, _<_, _^_};
 ghost use lib.ListN.{length};
 ghost use Rattle.rules.specs.Staircase.{slotsPerNode};

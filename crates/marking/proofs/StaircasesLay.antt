@@ -1,5 +1,5 @@
 -- The staircases of memory whose nodes are linked and whose profile stands are the profile's marks: band by band along the walks of the rules,
--- and so slot by slot, each slot where its fence says, and as many as the marks in use.
+-- and so slot by slot, each slot past as many as its fence says, and in all as many as the marks in use.
 -- Assumes nothing.
 use Prim.Native.Nat.{ℕ, zero, suc, _+_, _*_, _≤_}
 use mathlib.Core.Path.{_≡_, refl, sym, _∙_, ap, subst}
@@ -61,7 +61,7 @@ module _ (bands nodes : List ℕ) (linked : Linked nodes) (stands : Standing (sa
       ≡ laidMarksFrom (saidBy bands nodes) (saidNodes nodes)
   all-slots = rw staircases-by-band (all-of-walks (saidBy bands nodes) stands)
 
-  -- a slot's numbers start where its fence says
+  -- a slot's start is its fence
   pub slot-starts : (j : ℕ) (n : Node) (rest : List Node) → drop j (saidNodes nodes) ≡ n ∷ rest → (s : ℕ) → s ≤ slotsPerNode
       → startOf (slotNumber j s) (staircases bands nodes)
       ≡ fenceOf (saidBy bands nodes) j n rest s

@@ -55,7 +55,7 @@ fn stair_to(nodes: &[u32], here: usize, stair: usize) -> usize
     store::node_word(nodes, here, store::LINKS + stair - 1)
 }
 
-// Stores a word where the test says so, and answers the index past it; else the index itself.
+// Stores a word past the first `at` where the test says so, and answers how many there are then.
 fn put_word_if(words: &mut [u32], at: usize, value: usize, test: bool) -> usize
     requires { ⌜ (at ≤ 2 ^ 32) × (value < 2 ^ 32) ⌝ }
     ensures { λ r. ⌜
@@ -72,7 +72,7 @@ fn put_word_if(words: &mut [u32], at: usize, value: usize, test: bool) -> usize
     }
 }
 
-// Writes the slots visited at a place from index `at` on, and answers the index past them.
+// Writes the slots visited at a place past the first `at`, and answers how many there are then.
 fn visit(
     nodes: &[u32],
     band: Band,

@@ -13,7 +13,7 @@ pub struct Taken {
     pub met: u32,
 }
 
-// Takes the marks from one index up to another, as far as there are any.
+// Of the first `to` marks takes those past the first `from`, as far as there are any.
 fn take(marks: &[u32], from: usize, to: usize, taken: Taken) -> Taken
     requires { ⌜ (taken .met + length (now marks) < 2 ^ 32) ⌝ }
     ensures { λ r. ⌜ r ≡ withTaken taken (between from to (now (marks .entry))) ⌝ }

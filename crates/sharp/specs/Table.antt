@@ -172,23 +172,23 @@ freeNodeRows = run (node 4) 0 20 1
 abbrev pub markRows : List Row
 markRows =
     -- the other live numbers
-    mark 0 2
-    ∷ mark 0 3
-    ∷ mark 1 2
+    mark 1 2
     ∷ mark 1 3
-    ∷ mark 2 1
     ∷ mark 2 2
+    ∷ mark 2 3
     ∷ mark 3 1
-    ∷ mark 3 3
+    ∷ mark 3 2
     ∷ mark 4 1
-    ∷ mark 4 2
+    ∷ mark 4 3
+    ∷ mark 5 1
+    ∷ mark 5 2
     -- two numbers that are not live, and one that no band can have
-    ∷ run mark 0 5 0
-    ++ run mark 0 5 4
-    ++ run mark 0 5 1024
+    ∷ run mark 1 5 0
+    ++ run mark 1 5 4
+    ++ run mark 1 5 1024
     -- free mark places: a live number, and one that is not live
-    ++ run mark 5 2 3
-    ++ run mark 5 2 4
+    ++ run mark 6 2 3
+    ++ run mark 6 2 4
 
 -- the one table
 abbrev pub table : List Row

@@ -92,7 +92,7 @@ marksBefore p zero ms = []
 marksBefore p (suc j) [] = []
 marksBefore p (suc j) (n ∷ rest) = nodeMarks p n rest ++ marksBefore p j rest
 
--- where fence s of the node with j others before it stands: past the marks of these nodes and of the slots before s
+-- fence s of the node with j others before it: how many marks these nodes and the slots before s have
 abbrev pub fenceOf : Profile → ℕ → Node → List Node → ℕ → ℕ
 fenceOf p j n rest s = length (marksBefore p j (p .nodes)) + length (slotsMarks p n rest 0 s)
 
@@ -120,7 +120,7 @@ module _ (p : Profile) (n : Node) (rest : List Node) where
       let e : slotsPerNode ≡ s + suc (lanes - s) = omega arith in
       ap (slotsMarks p n rest 0) e ∙ rw (slots-cut 0 s (suc (lanes - s)), zero-add)
 
--- between the fences of slot s of the node at place j + 1 stand the slot's marks
+-- past fence s of the node at place j + 1, up to its next fence, stand the marks of slot s
 pub slot-between : (words : ℕ) (p : Profile) (j : ℕ) (n : Node) (rest : List Node) → drop j (p .nodes) ≡ n ∷ rest → (s : ℕ) → s ≤ lanes
     → between
     (fenceOf p j n rest s)

@@ -55,7 +55,7 @@ laid-nodes-taken room more p fit h =
 
 -- ---- places
 
--- past the first j records are those of the nodes past the first j, whose marks begin after those of the first j
+-- past the first j records are those of the nodes past the first j, with the marks of the first j before theirs
 records-from-place : (p : Profile) (j k at : ℕ) (ms : List Node)
     → drop (j * nodePlaceWords) (laidNodesFrom p k at ms) ≡ laidNodesFrom p (k + j) (at + length (marksBefore p j ms)) (drop j ms)
 records-from-place p zero k at ms = rw (add-zero k, add-zero at)

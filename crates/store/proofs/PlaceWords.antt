@@ -54,7 +54,7 @@ module _ (p : Profile) (n : Node) (rest : List Node) where
   fences-length at s zero = refl
   fences-length at s (suc m) = ap suc (fences-length (at + length (slotMarks p n rest s)) (suc s) m)
 
-  -- a fence stands as far past the first as there are marks in the slots before it
+  -- a fence is higher than the first by as many marks as there are in the slots before it
   pub fence-at : (at s m t : ℕ) → t ≤ m → getD (fencesFrom p n rest at s m) t 0 ≡ at + length (slotsMarks p n rest s t)
   fence-at at s zero zero l = omega arith
   fence-at at s zero (suc t) l = absurd (omega arith)

@@ -30,7 +30,7 @@ abbrev pub firstLinksFrom : List Node → ℕ → ℕ → List ℕ
 firstLinksFrom ns i zero = []
 firstLinksFrom ns i (suc m) = nextPlace i 1 ns ∷ firstLinksFrom ns (suc i) m
 
--- the fences from slot s on, for m slots and the end: each is where the marks of its slot begin, the last where they all end
+-- the fences from slot s on, for m slots and the end: each is how many marks stand before its slot, the last how many up to the end
 abbrev pub fencesFrom : Profile → Node → List Node → ℕ → ℕ → ℕ → List ℕ
 fencesFrom p n rest at s zero = at ∷ []
 fencesFrom p n rest at s (suc m) = at ∷ fencesFrom p n rest (at + length (slotMarks p n rest s)) (suc s) m
@@ -39,11 +39,11 @@ fencesFrom p n rest at s (suc m) = at ∷ fencesFrom p n rest (at + length (slot
 unfoldable pub laidHeader : Profile → List ℕ
 laidHeader p = length (p .nodes) ∷ lanes ∷ firstLinksFrom (p .nodes) 0 lanes ++ marksInUse p ∷ replicate slotsPerNode 0
 
--- the record of node n at place j, with `rest` after it, whose marks begin at index `at`
+-- the record of node n at place j, with `rest` after it and `at` marks before its own
 unfoldable pub laidNode : Profile → ℕ → ℕ → Node → List Node → List ℕ
 laidNode p j at n rest = n .key ∷ n .level ∷ linksFrom j n rest 0 lanes ++ fencesFrom p n rest at 0 slotsPerNode
 
--- the records of the nodes from place j on, whose marks begin at index `at`
+-- the records of the nodes from place j on, with `at` marks before theirs
 abbrev pub laidNodesFrom : Profile → ℕ → ℕ → List Node → List ℕ
 laidNodesFrom p j at [] = []
 laidNodesFrom p j at (n ∷ rest) =

@@ -1,6 +1,7 @@
--- Where each field stands: in a band place, in the header, in a node place. A word past the end of its slice reads as 0.
+-- Where each field stands: in a band place, in the header, in a node place; and which word a mark place is. A word past the end of its slice reads
+-- as 0.
 -- Assumes nothing.
-use Prim.Native.Nat.{ℕ, _+_, _*_}
+use Prim.Native.Nat.{ℕ, _+_, _-_, _*_}
 use mathlib.Core.List.{List}
 use lib.ListN.{getD, set}
 use Rattle.store.specs.Sizes.{bandPlaceWords, nodePlaceWords}
@@ -44,7 +45,8 @@ highClosedField = 5
 abbrev pub reserveField : ℕ
 reserveField = 6
 
--- a node place: key, level, from word 2 the next node's place in lanes 0 to 7 (0 for none), from word 10 ten fences
+-- a node place: key, level, from word 2 the next node's place in lanes 0 to 7 (0 for none), from word 10 ten fences, each how many marks stand before its slot,
+-- the tenth how many up to the end of the last
 abbrev pub keyField : ℕ
 keyField = 0
 
@@ -69,6 +71,10 @@ laneCountField = 1
 
 abbrev pub marksInUseField : ℕ
 marksInUseField = 10
+
+-- which word of the marks mark place i is: these places count from 1, as node places do
+abbrev pub markWord : ℕ → ℕ
+markWord i = i - 1
 
 -- how many nodes the header counts
 abbrev pub inUse : List ℕ → ℕ

@@ -1,11 +1,12 @@
--- The marks that words say: those of a slot stand between two fences of its node place. Slot 0 is the node itself, slot 1 + i its edge in lane i.
+-- The marks that words say: those of a slot fill the mark places past its fence, which counts the marks before it, up to the next fence of its node
+-- place. Slot 0 is the node itself, slot 1 + i its edge in lane i.
 -- Assumes nothing.
 use Prim.Native.Nat.{ℕ, suc, _-_}
 use mathlib.Core.List.{List}
 use lib.ListN.{take, drop}
 use Rattle.store.specs.Places.{nodeField, fenceField}
 
--- the words from one index up to another, as far as there are any
+-- of the first `to` words those past the first `from`, as far as there are any
 unfoldable pub between : ℕ → ℕ → List ℕ → List ℕ
 between from to words = take (to - from) (drop from words)
 

@@ -26,7 +26,7 @@ pub const HIGH_CLOSED: usize = 5;
 // The first of the two words of zero past them.
 pub const RESERVE: usize = 6;
 
-// A node place: key, level, a link for each lane, and the fences between which the marks of each slot stand.
+// A node place: key, level, a link for each lane, and the fences: how many marks stand before each slot, and how many up to the last slot's end.
 pub const KEY: usize = 0;
 
 pub const LEVEL: usize = 1;

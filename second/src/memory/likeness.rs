@@ -23,8 +23,8 @@ pub fn marked_alike(words: &Words) -> Option<Profile> {
     (is_alike(Slice::Nodes) && is_alike(Slice::Marks)).then_some(alike)
 }
 
-/// The bands that are marked between the fences of the nodes. Where fences or links are
-/// wrong, what is read would be laid otherwise.
+/// The bands that are marked in the nodes' slots, whose marks the fences count. Where fences
+/// or links are wrong, what is read would be laid otherwise.
 fn bands_marked(words: &Words) -> Bands {
     let nodes = words.nodes();
     let lanes = Lanes::of(&nodes);

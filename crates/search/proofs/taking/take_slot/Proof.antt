@@ -1,4 +1,4 @@
--- `search::taking::take_slot` meets its contract: the slot's two fences say from where to where its marks stand.
+-- `search::taking::take_slot` meets its contract: the slot's fence says past how many marks its own stand, the next up to how many.
 -- Assumes nothing.
 use Prim.Native.Nat.{ℕ, suc, _+_}
 use native.Mathlib.Omega.{arith}
