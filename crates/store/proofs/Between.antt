@@ -1,4 +1,4 @@
--- Of the first so many words those past the first of them: one word more while there is one, then none, never more than there are; and which they are.
+-- The words past one count, up to another: one word more while there is one, then none, never more than there are; and which they are.
 -- Assumes nothing.
 use Prim.Native.Nat.{ℕ, suc, _+_, _-_, _≤_, _<_, min}
 use native.Mathlib.Nat.{sub-zero}

@@ -4,7 +4,7 @@
 --   RightSizes     which lengths are right, and which room they make
 --   Memory         two memories are the same
 --   SaidBands, SaidNodes    the bands and the nodes that any words say, place by place
---   Between        of the first so many words those past the first of them
+--   Between        the words past one count, up to another
 --   Lays           what node and mark words that lay a profile say at each place, and that they say its nodes
 --   LaidBands, LaidNodes, LaidMarks    the words of a profile
 --   WithBand       .. and the band words once one number is laid anew

@@ -45,8 +45,8 @@ highClosedField = 5
 abbrev pub reserveField : ℕ
 reserveField = 6
 
--- a node place: key, level, from word 2 the next node's place in lanes 0 to 7 (0 for none), from word 10 ten fences, each how many marks stand before its slot,
--- the tenth how many up to the end of the last
+-- a node place: key, level, from word 2 the next node's place in lanes 0 to 7 (0 for none), from word 10 ten fences: how many marks stand before each
+-- slot, and how many up to the end of the last
 abbrev pub keyField : ℕ
 keyField = 0
 
