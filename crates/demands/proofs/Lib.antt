@@ -5,6 +5,7 @@
 --   LevelStays        a node keeps its level while it stands; a made one has the level given
 --   Alone             a call of one machine leaves flags, count and marks met the same at every other machine's keys
 --   Local             other bands keep their marks outside the stretches, and gain none there
+--   AnyOutcome        all of this of whatever meets the promise of a call that changes, in one record for each call
 -- .. on sound memory:
 --   KeepsSound        every call leaves sound memory sound (and every memory as long as it was)
 -- .. from an empty profile on:
@@ -23,6 +24,7 @@ pub mod Lives
 pub mod LevelStays
 pub mod Alone
 pub mod Local
+pub mod AnyOutcome
 pub mod NotAlwaysRefused
 pub mod KeepsSound
 pub mod AlwaysSound
