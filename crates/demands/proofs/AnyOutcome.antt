@@ -29,6 +29,7 @@ use Rattle.store.specs.ChangeIn.{changeIn}
 use Rattle.store.proofs.LentWords.{Lent}
 use Rattle.store.proofs.ChangeIn.{LeavesSound, change-leaves}
 use Rattle.asking.specs.BandCall.{bandIn}
+use Rattle.asking.specs.NodeCall.{nodeIn}
 use Rattle.emptying.specs.EmptyCall.{emptyIn}
 use Rattle.emptying.proofs.Accepted.{empty-fitting}
 use Rattle.emptying.proofs.EmptyExact.{EmptyMade, empty-makes}
@@ -44,6 +45,7 @@ use Rattle.removing.proofs.Refused.{remove-refused-exactly}
 use Rattle.removing.proofs.remove.Reads.{Post as removePromise}
 use Rattle.demands.proofs.RefusedUnchanged.{refused-unchanged}
 use Rattle.demands.proofs.Lives.{change-ends, insert-lives, insert-no-other, remove-ends, remove-no-other}
+use Rattle.demands.proofs.LevelStays.{SameLevels, StandsWith, insert-level-stays, remove-level-stays, low-level-given, high-level-given}
 use Rattle.demands.proofs.Alone.{OthersStabbedAlike, insert-alone, remove-alone}
 use Rattle.demands.proofs.Local.{OtherNumbersKept, insert-local, remove-local}
 
@@ -103,7 +105,12 @@ pub record InsertOutcome (m : Memory) (b : Band) (lo hi : ℕ) (o : Change Memor
   pub lives : o .refusal ≡ 0 → bandIn (o .after) (b .number) ≡ saying 0 (bandReadOf (some b))
   -- every other number's readout stays
   pub no-other : (number : ℕ) → (number ≡ b .number → ⊥) → bandIn (o .after) number ≡ bandIn m number
-  -- .. and its marks outside the stretches that the call may reach
+  -- a node keeps its level while it stands
+  pub levels : SameLevels m (o .after)
+  -- .. and one made at an end has the level given, at the one end of a one-key band the low end's
+  pub low-level : o .refusal ≡ 0 → nodeIn m (b .low) .refusal ≡ 13 → StandsWith lo (o .after) (b .low)
+  pub high-level : o .refusal ≡ 0 → (b .high ≡ b .low → ⊥) → nodeIn m (b .high) .refusal ≡ 13 → StandsWith hi (o .after) (b .high)
+  -- other numbers keep their marks outside the stretches that the call may reach, and gain none there
   pub local : OtherNumbersKept (b .number) m (o .after)
   -- a band of one machine leaves flags, count and marks met the same at every key of every other machine
   pub alone : OthersStabbedAlike (b .scope) m (o .after)
@@ -116,6 +123,9 @@ insert-outcome m b lo hi =
       leaves = insert-leaves m b lo hi;
       lives = insert-lives m b lo hi;
       no-other = insert-no-other m b lo hi;
+      levels = insert-level-stays m b lo hi;
+      low-level = low-level-given m b lo hi;
+      high-level = high-level-given m b lo hi;
       local = insert-local m b lo hi;
       alone = insert-alone m b lo hi;
     }
@@ -139,7 +149,9 @@ pub record RemoveOutcome (m : Memory) (number scope : ℕ) (o : Change Memory) :
   pub ends : o .refusal ≡ 0 → bandIn (o .after) number ≡ saying 9 (bandReadOf none)
   -- every other number's readout stays
   pub no-other : (n : ℕ) → (n ≡ number → ⊥) → bandIn (o .after) n ≡ bandIn m n
-  -- .. and its marks outside the stretches that the call may reach
+  -- a node keeps its level while it stands
+  pub levels : SameLevels m (o .after)
+  -- other numbers keep their marks outside the stretches that the call may reach, and gain none there
   pub local : OtherNumbersKept number m (o .after)
   -- a band of one machine leaves flags, count and marks met the same at every key of every other machine
   pub alone : OthersStabbedAlike scope m (o .after)
@@ -153,6 +165,7 @@ remove-outcome m number scope =
       leaves = change-leaves m (removeRefusalIn m number scope) (removed (saidProfile m) number) (remove-fitting m number scope);
       ends = remove-ends m number scope;
       no-other = remove-no-other m number scope;
+      levels = remove-level-stays m number scope;
       local = remove-local m number scope;
       alone = remove-alone m number scope;
     }
