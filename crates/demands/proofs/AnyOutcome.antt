@@ -45,6 +45,7 @@ use Rattle.removing.proofs.Refused.{remove-refused-exactly}
 use Rattle.removing.proofs.remove.Reads.{Post as removePromise}
 use Rattle.demands.proofs.RefusedUnchanged.{refused-unchanged}
 use Rattle.demands.proofs.Lives.{change-ends, insert-lives, insert-no-other, remove-ends, remove-no-other}
+use Rattle.demands.proofs.Found.{FoundWhereHeld, FoundNowhere, insert-found, remove-lost}
 use Rattle.demands.proofs.LevelStays.{SameLevels, StandsWith, insert-level-stays, remove-level-stays, low-level-given, high-level-given}
 use Rattle.demands.proofs.Alone.{OthersStabbedAlike, insert-alone, remove-alone}
 use Rattle.demands.proofs.Local.{OtherNumbersKept, insert-local, remove-local}
@@ -103,6 +104,8 @@ pub record InsertOutcome (m : Memory) (b : Band) (lo hi : ℕ) (o : Change Memor
   pub leaves : o .refusal ≡ 0 → LeavesSound m (inserted (saidProfile m) b lo hi) (o .after)
   -- .. and the band lives as given
   pub lives : o .refusal ≡ 0 → bandIn (o .after) (b .number) ≡ saying 0 (bandReadOf (some b))
+  -- .. and is found by stabs at the keys that it holds, and at no other
+  pub found : o .refusal ≡ 0 → FoundWhereHeld (o .after) b
   -- every other number's readout stays
   pub no-other : (number : ℕ) → (number ≡ b .number → ⊥) → bandIn (o .after) number ≡ bandIn m number
   -- a node keeps its level while it stands
@@ -122,6 +125,7 @@ insert-outcome m b lo hi =
       unchanged = refused-unchanged m (inserting b lo hi);
       leaves = insert-leaves m b lo hi;
       lives = insert-lives m b lo hi;
+      found = insert-found m b lo hi;
       no-other = insert-no-other m b lo hi;
       levels = insert-level-stays m b lo hi;
       low-level = low-level-given m b lo hi;
@@ -147,6 +151,8 @@ pub record RemoveOutcome (m : Memory) (number scope : ℕ) (o : Change Memory) :
   pub leaves : o .refusal ≡ 0 → LeavesSound m (removed (saidProfile m) number) (o .after)
   -- .. and the number is live no more
   pub ends : o .refusal ≡ 0 → bandIn (o .after) number ≡ saying 9 (bandReadOf none)
+  -- .. and is found nowhere
+  pub lost : o .refusal ≡ 0 → FoundNowhere (o .after) number
   -- every other number's readout stays
   pub no-other : (n : ℕ) → (n ≡ number → ⊥) → bandIn (o .after) n ≡ bandIn m n
   -- a node keeps its level while it stands
@@ -164,6 +170,7 @@ remove-outcome m number scope =
       unchanged = refused-unchanged m (removing number scope);
       leaves = change-leaves m (removeRefusalIn m number scope) (removed (saidProfile m) number) (remove-fitting m number scope);
       ends = remove-ends m number scope;
+      lost = remove-lost m number scope;
       no-other = remove-no-other m number scope;
       levels = remove-level-stays m number scope;
       local = remove-local m number scope;

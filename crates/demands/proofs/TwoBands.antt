@@ -1,0 +1,41 @@
+-- Two bands of one open stretch, by the rules alone: into an empty profile the first goes in wherever there is room for two nodes, with any room for
+-- marks that is in range, and the second after it wherever there is room for two nodes and two marks.
+-- Assumes nothing.
+use Prim.Native.Nat.{ℕ, _≤_}
+use mathlib.Core.Path.{_≡_}
+use mathlib.Core.Bool.{true}
+use native.Mathlib.Omega.{arith}
+use borrow.Author.Tests.{le-ltb}
+use Rattle.rules.specs.HallLine.{Band, house}
+use Rattle.rules.specs.Profile.{Profile, emptyProfile}
+use Rattle.rules.specs.Changes.{inserted}
+use Rattle.rules.specs.Room.{Room, roomInRange}
+use Rattle.rules.specs.BoxSaysNo.{insertRefusal}
+use Rattle.rules.specs.BenchProfile.{open′}
+use Rattle.rules.specs.Computes.{computes}
+use Rattle.rules.proofs.BoxSaysNo.{room-in-range-means}
+
+-- the house band (10,20) of that number: it holds neither of its ends, so it is marked on edges alone
+abbrev pub spanBand : ℕ → Band
+spanBand number = open′ number house 10 20
+
+-- number 1 alone, its nodes with level 3 ..
+abbrev pub oneSpan : Profile
+oneSpan = inserted emptyProfile (spanBand 1) 3 3
+
+-- .. and with it number 2, whose nodes stand already
+abbrev pub twoSpans : Profile
+twoSpans = inserted oneSpan (spanBand 2) 3 3
+
+module _ (room : Room) (nodes : 2 ≤ room .nodes) where
+  -- number 1 takes one mark, for which every room in range has a place ..
+  pub first-span-goes-in : roomInRange room ≡ true → insertRefusal true true room emptyProfile (spanBand 1) 3 3 ≡ 0
+  unfolding computes
+  first-span-goes-in in-range =
+      let some-marks : 1 ≤ room .marks = omega (arith, room-in-range-means room .fact in-range) in
+      rw (le-ltb (room .nodes) 2 nodes, le-ltb (room .marks) 1 some-marks)
+
+  -- .. and both together two
+  pub second-span-goes-in : 2 ≤ room .marks → insertRefusal true true room oneSpan (spanBand 2) 3 3 ≡ 0
+  unfolding computes
+  second-span-goes-in marks = rw (le-ltb (room .nodes) 2 nodes, le-ltb (room .marks) 2 marks)

@@ -1,0 +1,318 @@
+-- Boxes that are shut out because something is there that they could not show: most of it in every memory of right sizes that has the room said, whatever
+-- it held, made empty and given a band or two. There is such a memory for every room in range.
+-- Assumes nothing.
+use Prim.Native.Nat.{ℕ, _≤_}
+use mathlib.Core.Path.{_≡_, refl, sym, ap, _∙_}
+use mathlib.Core.Bool.{true}
+use mathlib.Core.Option.{some}
+use native.Mathlib.Omega.{arith}
+use lib.ListN.{length}
+use Rattle.rules.specs.HallLine.{Band}
+use Rattle.rules.specs.Profile.{Profile, emptyProfile}
+use Rattle.rules.specs.Changes.{inserted}
+use Rattle.rules.specs.Flags.{flagAt}
+use Rattle.rules.specs.Search.{Stab}
+use Rattle.rules.specs.Readouts.{EdgeRead}
+use Rattle.rules.specs.Marks.{marksInUse}
+use Rattle.rules.specs.Room.{Room, roomInRange}
+use Rattle.rules.specs.BoxSaysNo.{Change, noFlags, insertRefusal, stabAnswer, bandReadAnswer, edgeReadAnswer, roomReadAnswer}
+use Rattle.rules.specs.Computes.{computes}
+use Rattle.rules.proofs.BoxSaysNo.{fit-refusal-zero}
+use Rattle.rules.proofs.SoundMemory.{standing-means, sound-where-fits}
+use Rattle.rules.proofs.Theory.StandingKept.{empty-stands}
+use Rattle.rules.proofs.Theory.OneBand.{zeroBand}
+use Rattle.store.specs.Sizes.{lengthsOf, sizesRight, roomFor}
+use Rattle.store.specs.Memory.{Memory, lent, lengthsIn, roomIn}
+use Rattle.store.specs.LaidMemory.{laidMemory}
+use Rattle.store.specs.ChangeIn.{changeIn}
+use Rattle.store.proofs.RightSizes.{right-lengths}
+use Rattle.store.proofs.LaidSound.{laid-room, laid-sound}
+use Rattle.store.proofs.SaidStands.{sizes-of-sound}
+use Rattle.store.proofs.ChangeIn.{LeavesSound}
+use Rattle.asking.specs.StabCall.{stabIn}
+use Rattle.asking.specs.BandCall.{bandRefusalIn, bandIn}
+use Rattle.asking.specs.EdgeCall.{edgeIn}
+use Rattle.asking.specs.RoomCall.{roomReadIn}
+use Rattle.asking.proofs.OnSound.{stab-on-sound, band-on-sound, edge-on-sound, room-on-sound}
+use Rattle.asking.proofs.BandExact.{band-exact, band-refused-9}
+use Rattle.asking.proofs.Alike.{stabs-alike}
+use Rattle.emptying.specs.EmptyCall.{emptyIn}
+use Rattle.emptying.proofs.EmptyExact.{empty-makes}
+use Rattle.inserting.specs.InsertCall.{insertRefusalIn, insertIn}
+use Rattle.inserting.proofs.Accepted.{insert-unrefused, insert-leaves}
+use Rattle.removing.specs.RemoveCall.{removeIn}
+use Rattle.removing.proofs.Accepted.{remove-unrefused}
+use Rattle.demands.proofs.Lives.{insert-lives, remove-ends}
+use Rattle.demands.proofs.TwoBands.{spanBand, oneSpan, twoSpans, first-span-goes-in, second-span-goes-in}
+use Rattle.demands.proofs.NotAlwaysRefused.{some-insert-accepted}
+
+-- ---- how one comes there
+
+-- every room in range is that of some memory of right sizes
+pub every-room-lent : (room : Room) → roomInRange room ≡ true → (m : Memory) × (sizesRight (lengthsIn m) ≡ true) × (roomIn m ≡ room)
+unfolding marksInUse
+every-room-lent room in-range =
+    let fits =
+    sound-where-fits room emptyProfile in-range (standing-means emptyProfile .test empty-stands)
+    (fit-refusal-zero room emptyProfile .1 (omega arith, omega arith)) in
+    let m = laidMemory room emptyProfile in
+    (m, sizes-of-sound m (laid-sound room emptyProfile fits), laid-room room emptyProfile fits)
+
+-- memory of right sizes that is made empty soundly says the empty profile
+emptied : (m : Memory) → sizesRight (lengthsIn m) ≡ true → LeavesSound m emptyProfile (emptyIn m .after)
+emptied m right = let made = empty-makes m right in record { is-sound = made .is-sound; says = made .is-empty; same-lengths = made .same-lengths }
+
+module _ {m w : Memory} {p : Profile} (is : LeavesSound m p w) where
+  module _ (b : Band) (lo hi : ℕ) where
+    -- where memory soundly says a profile, an insert that the rules accept is accepted ..
+    goes-in : insertRefusal true true (roomIn m) p b lo hi ≡ 0 → insertIn w b lo hi .refusal ≡ 0
+    unfolding insertIn changeIn insertRefusalIn roomIn
+    goes-in z = (λ i. insertRefusal (sizes-of-sound w (is .is-sound) i) (is .is-sound i) (roomFor (is .same-lengths i)) (is .says i) b lo hi) ∙ z
+
+    -- .. and memory then soundly says the profile with the band
+    with-band : insertIn w b lo hi .refusal ≡ 0 → LeavesSound m (inserted p b lo hi) (insertIn w b lo hi .after)
+    with-band z =
+        let left = insert-leaves w b lo hi z in
+        record {
+          is-sound = left .is-sound;
+          says = left .says ∙ ap (λ q. inserted q b lo hi) (is .says);
+          same-lengths = left .same-lengths ∙ is .same-lengths;
+        }
+
+  -- every stab and readout of it is the rules' own on the profile
+  stabbed : (k : ℕ) → stabIn w k ≡ stabAnswer true p k
+  stabbed k = stab-on-sound w (is .is-sound) k ∙ ap (λ q. stabAnswer true q k) (is .says)
+
+  band-read : (number : ℕ) → bandIn w number ≡ bandReadAnswer true p number
+  band-read number = band-on-sound w (is .is-sound) number ∙ ap (λ q. bandReadAnswer true q number) (is .says)
+
+  edge-read : (k lane : ℕ) → edgeIn w k lane ≡ edgeReadAnswer true p k lane
+  edge-read k lane = edge-on-sound w (is .is-sound) k lane ∙ ap (λ q. edgeReadAnswer true q k lane) (is .says)
+
+  room-read : roomReadIn w ≡ roomReadAnswer true p
+  room-read = room-on-sound w (is .is-sound) ∙ ap (roomReadAnswer true) (is .says)
+
+-- ---- a stab with one constant answer
+
+-- what comes of the insert of the house band of number 0, [0,0], with levels 1 and 1, into memory e
+abbrev pub zeroIn : Memory → Change Memory
+zeroIn e = insertIn e zeroBand 1 1
+
+-- what a stab answers then
+abbrev pub zeroStab : Memory → ℕ → Stab
+zeroStab e k = stabIn (zeroIn e .after) k .read
+
+pub record StabsDiffer (e : Memory) : Type 0 where
+  -- the insert is accepted, and so is the stab at either key
+  pub accepted : zeroIn e .refusal ≡ 0
+  pub at-0-accepted : stabIn (zeroIn e .after) 0 .refusal ≡ 0
+  pub at-1-accepted : stabIn (zeroIn e .after) 1 .refusal ≡ 0
+  -- at key 0 number 0 is flagged, and it alone
+  pub at-0-flagged : flagAt (zeroStab e 0 .flags) 0 ≡ 1
+  pub at-0-count : zeroStab e 0 .count ≡ 1
+  -- at key 1 no number is
+  pub at-1-no-flags : zeroStab e 1 .flags ≡ noFlags
+  pub at-1-count : zeroStab e 1 .count ≡ 0
+
+-- in every room
+module _ (m : Memory) (right : sizesRight (lengthsIn m) ≡ true) where
+  zero-says : LeavesSound m (inserted emptyProfile zeroBand 1 1) (zeroIn (emptyIn m .after) .after)
+  zero-says = with-band (emptied m right) zeroBand 1 1 (some-insert-accepted m right)
+
+  pub stab-not-constant : StabsDiffer (emptyIn m .after)
+  unfolding computes
+  stab-not-constant =
+      record {
+        accepted = some-insert-accepted m right;
+        at-0-accepted = ap (λ a. a .refusal) (stabbed zero-says 0);
+        at-1-accepted = ap (λ a. a .refusal) (stabbed zero-says 1);
+        at-0-flagged = ap (λ a. flagAt (a .read .flags) 0) (stabbed zero-says 0);
+        at-0-count = ap (λ a. a .read .count) (stabbed zero-says 0);
+        at-1-no-flags = ap (λ a. a .read .flags) (stabbed zero-says 1);
+        at-1-count = ap (λ a. a .read .count) (stabbed zero-says 1);
+      }
+
+-- ---- invented looks or marks met
+
+-- in the same memory
+pub record LooksAndMetDiffer (e : Memory) : Type 0 where
+  -- at key 0 one mark is met; no node lies below, so there is one look in each of the eight lanes
+  pub at-0-met : zeroStab e 0 .met ≡ 1
+  pub at-0-looks : zeroStab e 0 .looks ≡ 8
+  -- at key 1 none is met; the node at 0 is stepped onto, which is a look more
+  pub at-1-met : zeroStab e 1 .met ≡ 0
+  pub at-1-looks : zeroStab e 1 .looks ≡ 9
+
+module _ (m : Memory) (right : sizesRight (lengthsIn m) ≡ true) where
+  pub looks-and-met-not-constant : LooksAndMetDiffer (emptyIn m .after)
+  unfolding computes
+  looks-and-met-not-constant =
+      let says = zero-says m right in
+      record {
+        at-0-met = ap (λ a. a .read .met) (stabbed says 0);
+        at-0-looks = ap (λ a. a .read .looks) (stabbed says 0);
+        at-1-met = ap (λ a. a .read .met) (stabbed says 1);
+        at-1-looks = ap (λ a. a .read .looks) (stabbed says 1);
+      }
+
+-- ---- marks never stored but worked out from the list
+
+-- the band words of one memory with the node and mark words of another
+abbrev pub listedAndMarked : Memory → Memory → Memory
+listedAndMarked listed marked = lent (listed .bands) (marked .nodes) (marked .marks)
+
+pub record FoundByMarksAlone (e : Memory) : Type 0 where
+  -- where band words have number 0 and node and mark words are those of the empty profile, it lives and is not found
+  pub listed-lives : bandIn (listedAndMarked (zeroIn e .after) e) 0 .refusal ≡ 0
+  pub listed-not-found : stabIn (listedAndMarked (zeroIn e .after) e) 0 .read .flags ≡ noFlags
+  -- where band words are those of the empty profile and node and mark words have its mark, it does not live and is found
+  pub marked-not-live : bandIn (listedAndMarked e (zeroIn e .after)) 0 .refusal ≡ 9
+  pub marked-found : flagAt (stabIn (listedAndMarked e (zeroIn e .after)) 0 .read .flags) 0 ≡ 1
+
+-- the band readout reads lengths and band words alone
+bands-alike : (m w : Memory) → sizesRight (lengthsIn m) ≡ true → sizesRight (lengthsIn w) ≡ true → m .bands ≡ w .bands
+    → (number : ℕ) → bandIn m number ≡ bandIn w number
+unfolding bandIn bandRefusalIn
+bands-alike m w right-m right-w bands number = rw (right-m, right-w, bands)
+
+-- the band words of one and the node and mark words of another are of right sizes where both are of one length
+module _ (listed marked : Memory) (same : lengthsIn listed ≡ lengthsIn marked) (right : sizesRight (lengthsIn marked) ≡ true) where
+  mixed-right : sizesRight (lengthsIn (listedAndMarked listed marked)) ≡ true
+  mixed-right = (λ i. sizesRight (lengthsOf (same i .bands) (length (marked .nodes)) (length (marked .marks)))) ∙ right
+
+  mixed-band : (number : ℕ) → bandIn (listedAndMarked listed marked) number ≡ bandIn listed number
+  mixed-band = bands-alike (listedAndMarked listed marked) listed mixed-right (ap sizesRight same ∙ right) refl
+
+  mixed-stab : (k : ℕ) → stabIn (listedAndMarked listed marked) k ≡ stabIn marked k
+  mixed-stab = stabs-alike (listedAndMarked listed marked) marked mixed-right right refl refl
+
+module _ (m : Memory) (right : sizesRight (lengthsIn m) ≡ true) where
+  pub found-by-marks-alone : FoundByMarksAlone (emptyIn m .after)
+  unfolding computes
+  found-by-marks-alone =
+      let e = emptyIn m .after in
+      let w = zeroIn e .after in
+      let none = emptied m right in
+      let one = zero-says m right in
+      let longer = one .same-lengths ∙ sym (none .same-lengths) in
+      let right-e = sizes-of-sound e (none .is-sound) in
+      let right-w = sizes-of-sound w (one .is-sound) in
+      record {
+        listed-lives = ap (λ a. a .refusal) (mixed-band w e longer right-e 0 ∙ band-read one 0);
+        listed-not-found = ap (λ a. a .read .flags) (mixed-stab w e longer right-e 0 ∙ stabbed none 0);
+        marked-not-live = ap (λ a. a .refusal) (mixed-band e w (sym longer) right-w 0 ∙ band-read none 0);
+        marked-found = ap (λ a. flagAt (a .read .flags) 0) (mixed-stab e w (sym longer) right-w 0 ∙ stabbed one 0);
+      }
+
+-- ---- an insert that stores nothing, a remove that takes nothing away
+
+-- on any memory: after an accepted insert, or remove, it is another than before
+module _ (m : Memory) where
+  pub insert-stores : (b : Band) (lo hi : ℕ) → insertIn m b lo hi .refusal ≡ 0 → insertIn m b lo hi .after ≡ m → ⊥
+  unfolding insertIn changeIn
+  insert-stores b lo hi z same =
+      let judged = insert-unrefused m b lo hi z .judged in
+      let right = sizes-of-sound m (judged .memory-right) in
+      let before = band-refused-9 m right (b .number) (judged .band-right .number-right) .1 (judged .number-free) in
+      let after = ap (λ a. a .refusal) (insert-lives m b lo hi z) in
+      let now = ap (λ w. bandIn w (b .number) .refusal) same in
+      omega (arith, before, after, now)
+
+  pub remove-takes-away : (number scope : ℕ) → removeIn m number scope .refusal ≡ 0 → removeIn m number scope .after ≡ m → ⊥
+  unfolding removeIn changeIn
+  remove-takes-away number scope z same =
+      let judged = remove-unrefused m number scope z .judged in
+      let live = judged .number-live in
+      let before = ap (λ a. a .refusal) (band-exact m (sizes-of-sound m (judged .memory-right)) (live .0) (live .1)) in
+      let after = ap (λ a. a .refusal) (remove-ends m number scope z) in
+      let now = ap (λ w. bandIn w number .refusal) same in
+      let called = ap (λ n. bandIn m n .refusal) (live .2) in
+      omega (arith, before, after, now, called)
+
+-- ---- marks all in lane 0
+
+-- what comes of the insert of number 1, the house band (10,20), with levels 3 and 3, into memory e
+abbrev pub spanIn : Memory → Change Memory
+spanIn e = insertIn e (spanBand 1) 3 3
+
+-- what is read then of the edge from 10 in a lane
+abbrev pub spanEdge : Memory → ℕ → EdgeRead
+spanEdge e lane = edgeIn (spanIn e .after) 10 lane .read
+
+pub record MarkedInLane2Alone (e : Memory) : Type 0 where
+  pub accepted : spanIn e .refusal ≡ 0
+  -- lanes 0, 1 and 2 each lead from 10 to 20
+  pub lane-0-leads : spanEdge e 0 .next ≡ some 20
+  pub lane-1-leads : spanEdge e 1 .next ≡ some 20
+  pub lane-2-leads : spanEdge e 2 .next ≡ some 20
+  -- the band is marked on the edge in lane 2 ..
+  pub lane-2-marked : flagAt (spanEdge e 2 .flags) 1 ≡ 1
+  -- .. and on those in lanes 0 and 1 none is
+  pub lane-0-bare : spanEdge e 0 .flags ≡ noFlags
+  pub lane-1-bare : spanEdge e 1 .flags ≡ noFlags
+
+-- in every room for two nodes, without which there is no edge
+module _ (m : Memory) (right : sizesRight (lengthsIn m) ≡ true) (nodes : 2 ≤ roomIn m .nodes) where
+  span-accepted : spanIn (emptyIn m .after) .refusal ≡ 0
+  unfolding roomIn
+  span-accepted = goes-in (emptied m right) (spanBand 1) 3 3 (first-span-goes-in (roomIn m) nodes (right-lengths (lengthsIn m) right .0))
+
+  span-says : LeavesSound m oneSpan (spanIn (emptyIn m .after) .after)
+  span-says = with-band (emptied m right) (spanBand 1) 3 3 span-accepted
+
+  pub marks-not-all-in-lane-0 : MarkedInLane2Alone (emptyIn m .after)
+  unfolding computes
+  marks-not-all-in-lane-0 =
+      record {
+        accepted = span-accepted;
+        lane-0-leads = ap (λ a. a .read .next) (edge-read span-says 10 0);
+        lane-1-leads = ap (λ a. a .read .next) (edge-read span-says 10 1);
+        lane-2-leads = ap (λ a. a .read .next) (edge-read span-says 10 2);
+        lane-2-marked = ap (λ a. flagAt (a .read .flags) 1) (edge-read span-says 10 2);
+        lane-0-bare = ap (λ a. a .read .flags) (edge-read span-says 10 0);
+        lane-1-bare = ap (λ a. a .read .flags) (edge-read span-says 10 1);
+      }
+
+-- ---- marks the first band well and keeps later ones only on a list
+
+-- what comes of the insert of number 2 after it, of the same stretch
+abbrev pub twoSpansIn : Memory → Change Memory
+twoSpansIn e = insertIn (spanIn e .after) (spanBand 2) 3 3
+
+pub record BothMarked (e : Memory) : Type 0 where
+  pub first-accepted : spanIn e .refusal ≡ 0
+  pub second-accepted : twoSpansIn e .refusal ≡ 0
+  -- both bands live
+  pub first-lives : bandIn (twoSpansIn e .after) 1 .refusal ≡ 0
+  pub second-lives : bandIn (twoSpansIn e .after) 2 .refusal ≡ 0
+  -- both are marked on the edge from 10 to 20 in lane 2
+  pub edge-leads : edgeIn (twoSpansIn e .after) 10 2 .read .next ≡ some 20
+  pub first-marked : flagAt (edgeIn (twoSpansIn e .after) 10 2 .read .flags) 1 ≡ 1
+  pub second-marked : flagAt (edgeIn (twoSpansIn e .after) 10 2 .read .flags) 2 ≡ 1
+  -- these are the marks in use
+  pub marks-in-use : roomReadIn (twoSpansIn e .after) .read .marks ≡ 2
+  -- and a stab between the ends meets both
+  pub both-met : stabIn (twoSpansIn e .after) 15 .read .met ≡ 2
+
+-- in every room for two nodes and two marks, without which no two bands are marked on edges
+module _ (m : Memory) (right : sizesRight (lengthsIn m) ≡ true) (nodes : 2 ≤ roomIn m .nodes) (marks : 2 ≤ roomIn m .marks) where
+  two-accepted : twoSpansIn (emptyIn m .after) .refusal ≡ 0
+  two-accepted = goes-in (span-says m right nodes) (spanBand 2) 3 3 (second-span-goes-in (roomIn m) nodes marks)
+
+  two-say : LeavesSound m twoSpans (twoSpansIn (emptyIn m .after) .after)
+  two-say = with-band (span-says m right nodes) (spanBand 2) 3 3 two-accepted
+
+  pub later-bands-not-only-listed : BothMarked (emptyIn m .after)
+  unfolding computes
+  later-bands-not-only-listed =
+      record {
+        first-accepted = span-accepted m right nodes;
+        second-accepted = two-accepted;
+        first-lives = ap (λ a. a .refusal) (band-read two-say 1);
+        second-lives = ap (λ a. a .refusal) (band-read two-say 2);
+        edge-leads = ap (λ a. a .read .next) (edge-read two-say 10 2);
+        first-marked = ap (λ a. flagAt (a .read .flags) 1) (edge-read two-say 10 2);
+        second-marked = ap (λ a. flagAt (a .read .flags) 2) (edge-read two-say 10 2);
+        marks-in-use = ap (λ a. a .read .marks) (room-read two-say);
+        both-met = ap (λ a. a .read .met) (stabbed two-say 15);
+      }
