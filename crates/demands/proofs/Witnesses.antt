@@ -8,24 +8,23 @@ use mathlib.Core.Option.{some}
 use native.Mathlib.Omega.{arith}
 use lib.ListN.{length}
 use Rattle.rules.specs.HallLine.{Band}
-use Rattle.rules.specs.Profile.{Profile, emptyProfile}
+use Rattle.rules.specs.Profile.{emptyProfile}
 use Rattle.rules.specs.Changes.{inserted}
 use Rattle.rules.specs.Flags.{flagAt}
 use Rattle.rules.specs.Search.{Stab}
 use Rattle.rules.specs.Readouts.{EdgeRead}
 use Rattle.rules.specs.Marks.{marksInUse}
 use Rattle.rules.specs.Room.{Room, roomInRange}
-use Rattle.rules.specs.BoxSaysNo.{Change, noFlags, insertRefusal, stabAnswer, bandReadAnswer, edgeReadAnswer, roomReadAnswer}
+use Rattle.rules.specs.BoxSaysNo.{Change, noFlags}
 use Rattle.rules.specs.Computes.{computes}
 use Rattle.rules.proofs.BoxSaysNo.{fit-refusal-zero}
 use Rattle.rules.proofs.SoundMemory.{standing-means, sound-where-fits}
 use Rattle.rules.proofs.Theory.StandingKept.{empty-stands}
 use Rattle.rules.proofs.Theory.OneBand.{zeroBand}
-use Rattle.store.specs.Sizes.{lengthsOf, sizesRight, roomFor}
+use Rattle.store.specs.Sizes.{lengthsOf, sizesRight}
 use Rattle.store.specs.Memory.{Memory, lent, lengthsIn, roomIn}
 use Rattle.store.specs.LaidMemory.{laidMemory}
 use Rattle.store.specs.ChangeIn.{changeIn}
-use Rattle.store.proofs.RightSizes.{right-lengths}
 use Rattle.store.proofs.LaidSound.{laid-room, laid-sound}
 use Rattle.store.proofs.SaidStands.{sizes-of-sound}
 use Rattle.store.proofs.ChangeIn.{LeavesSound}
@@ -33,20 +32,19 @@ use Rattle.asking.specs.StabCall.{stabIn}
 use Rattle.asking.specs.BandCall.{bandRefusalIn, bandIn}
 use Rattle.asking.specs.EdgeCall.{edgeIn}
 use Rattle.asking.specs.RoomCall.{roomReadIn}
-use Rattle.asking.proofs.OnSound.{stab-on-sound, band-on-sound, edge-on-sound, room-on-sound}
 use Rattle.asking.proofs.BandExact.{band-exact, band-refused-9}
 use Rattle.asking.proofs.Alike.{stabs-alike}
 use Rattle.emptying.specs.EmptyCall.{emptyIn}
-use Rattle.emptying.proofs.EmptyExact.{empty-makes}
-use Rattle.inserting.specs.InsertCall.{insertRefusalIn, insertIn}
-use Rattle.inserting.proofs.Accepted.{insert-unrefused, insert-leaves}
+use Rattle.inserting.specs.InsertCall.{insertIn}
+use Rattle.inserting.proofs.Accepted.{insert-unrefused}
 use Rattle.removing.specs.RemoveCall.{removeIn}
 use Rattle.removing.proofs.Accepted.{remove-unrefused}
 use Rattle.demands.proofs.Lives.{insert-lives, remove-ends}
+use Rattle.demands.proofs.FromEmpty.{room-right, emptied, goes-in, with-band, stabbed, band-read, edge-read, room-read}
 use Rattle.demands.proofs.TwoBands.{spanBand, oneSpan, twoSpans, first-span-goes-in, second-span-goes-in}
 use Rattle.demands.proofs.NotAlwaysRefused.{some-insert-accepted}
 
--- ---- how one comes there
+-- ---- the memories spoken of
 
 -- every room in range is that of some memory of right sizes
 pub every-room-lent : (room : Room) → roomInRange room ≡ true → (m : Memory) × (sizesRight (lengthsIn m) ≡ true) × (roomIn m ≡ room)
@@ -57,40 +55,6 @@ every-room-lent room in-range =
     (fit-refusal-zero room emptyProfile .1 (omega arith, omega arith)) in
     let m = laidMemory room emptyProfile in
     (m, sizes-of-sound m (laid-sound room emptyProfile fits), laid-room room emptyProfile fits)
-
--- memory of right sizes that is made empty soundly says the empty profile
-emptied : (m : Memory) → sizesRight (lengthsIn m) ≡ true → LeavesSound m emptyProfile (emptyIn m .after)
-emptied m right = let made = empty-makes m right in record { is-sound = made .is-sound; says = made .is-empty; same-lengths = made .same-lengths }
-
-module _ {m w : Memory} {p : Profile} (is : LeavesSound m p w) where
-  module _ (b : Band) (lo hi : ℕ) where
-    -- where memory soundly says a profile, an insert that the rules accept is accepted ..
-    goes-in : insertRefusal true true (roomIn m) p b lo hi ≡ 0 → insertIn w b lo hi .refusal ≡ 0
-    unfolding insertIn changeIn insertRefusalIn roomIn
-    goes-in z = (λ i. insertRefusal (sizes-of-sound w (is .is-sound) i) (is .is-sound i) (roomFor (is .same-lengths i)) (is .says i) b lo hi) ∙ z
-
-    -- .. and memory then soundly says the profile with the band
-    with-band : insertIn w b lo hi .refusal ≡ 0 → LeavesSound m (inserted p b lo hi) (insertIn w b lo hi .after)
-    with-band z =
-        let left = insert-leaves w b lo hi z in
-        record {
-          is-sound = left .is-sound;
-          says = left .says ∙ ap (λ q. inserted q b lo hi) (is .says);
-          same-lengths = left .same-lengths ∙ is .same-lengths;
-        }
-
-  -- every stab and readout of it is the rules' own on the profile
-  stabbed : (k : ℕ) → stabIn w k ≡ stabAnswer true p k
-  stabbed k = stab-on-sound w (is .is-sound) k ∙ ap (λ q. stabAnswer true q k) (is .says)
-
-  band-read : (number : ℕ) → bandIn w number ≡ bandReadAnswer true p number
-  band-read number = band-on-sound w (is .is-sound) number ∙ ap (λ q. bandReadAnswer true q number) (is .says)
-
-  edge-read : (k lane : ℕ) → edgeIn w k lane ≡ edgeReadAnswer true p k lane
-  edge-read k lane = edge-on-sound w (is .is-sound) k lane ∙ ap (λ q. edgeReadAnswer true q k lane) (is .says)
-
-  room-read : roomReadIn w ≡ roomReadAnswer true p
-  room-read = room-on-sound w (is .is-sound) ∙ ap (roomReadAnswer true) (is .says)
 
 -- ---- a stab with one constant answer
 
@@ -254,8 +218,7 @@ pub record MarkedInLane2Alone (e : Memory) : Type 0 where
 -- in every room for two nodes, without which there is no edge
 module _ (m : Memory) (right : sizesRight (lengthsIn m) ≡ true) (nodes : 2 ≤ roomIn m .nodes) where
   span-accepted : spanIn (emptyIn m .after) .refusal ≡ 0
-  unfolding roomIn
-  span-accepted = goes-in (emptied m right) (spanBand 1) 3 3 (first-span-goes-in (roomIn m) nodes (right-lengths (lengthsIn m) right .0))
+  span-accepted = goes-in (emptied m right) (spanBand 1) 3 3 (first-span-goes-in (roomIn m) nodes (room-right m right))
 
   span-says : LeavesSound m oneSpan (spanIn (emptyIn m .after) .after)
   span-says = with-band (emptied m right) (spanBand 1) 3 3 span-accepted
