@@ -1,5 +1,5 @@
--- How one comes from an empty profile to a memory that says a given one: memory that soundly says a profile accepts what the rules accept on it, in the
--- room that was lent, then says what the rules come to, and every stab and readout of it is the rules' own.
+-- How one comes from an empty profile to a memory that says a given one: on memory that soundly says a profile inserts and removes answer what the rules
+-- give on it, in the room that was lent; an accepted insert leaves what the rules come to; and every stab and readout is the rules' own.
 -- Assumes nothing.
 use Prim.Native.Nat.{ℕ}
 use mathlib.Core.Path.{_≡_, ap, _∙_}
@@ -38,19 +38,19 @@ module _ (m : Memory) (right : sizesRight (lengthsIn m) ≡ true) where
 
 -- memory w that soundly says the profile p, in the room of the memory m that was lent
 module _ {m w : Memory} {p : Profile} (is : LeavesSound m p w) where
-  -- an insert that the rules accept there is accepted ..
-  pub goes-in : (b : Band) (lo hi : ℕ) → insertRefusal true true (roomIn m) p b lo hi ≡ 0 → insertIn w b lo hi .refusal ≡ 0
+  -- an insert answers the number that the rules give on the profile in that room ..
+  pub insert-answers : (b : Band) (lo hi : ℕ) → insertIn w b lo hi .refusal ≡ insertRefusal true true (roomIn m) p b lo hi
   unfolding insertIn changeIn insertRefusalIn roomIn
-  goes-in b lo hi z =
-      (λ i. insertRefusal (sizes-of-sound w (is .is-sound) i) (is .is-sound i) (roomFor (is .same-lengths i)) (is .says i) b lo hi) ∙ z
+  insert-answers b lo hi i =
+      insertRefusal (sizes-of-sound w (is .is-sound) i) (is .is-sound i) (roomFor (is .same-lengths i)) (is .says i) b lo hi
 
-  -- .. and a remove
-  pub goes-out : (number scope : ℕ) → removeRefusal true true (roomIn m) p number scope ≡ 0 → removeIn w number scope .refusal ≡ 0
+  -- .. and so does a remove
+  pub remove-answers : (number scope : ℕ) → removeIn w number scope .refusal ≡ removeRefusal true true (roomIn m) p number scope
   unfolding removeIn changeIn removeRefusalIn roomIn
-  goes-out number scope z =
-      (λ i. removeRefusal (sizes-of-sound w (is .is-sound) i) (is .is-sound i) (roomFor (is .same-lengths i)) (is .says i) number scope) ∙ z
+  remove-answers number scope i =
+      removeRefusal (sizes-of-sound w (is .is-sound) i) (is .is-sound i) (roomFor (is .same-lengths i)) (is .says i) number scope
 
-  -- memory then soundly says the profile with the band
+  -- after an accepted insert memory soundly says the profile with the band
   pub with-band : (b : Band) (lo hi : ℕ) → insertIn w b lo hi .refusal ≡ 0 → LeavesSound m (inserted p b lo hi) (insertIn w b lo hi .after)
   with-band b lo hi z =
       let left = insert-leaves w b lo hi z in

@@ -18,8 +18,8 @@
 -- What these are proved with:
 --   ChangesOnly       which bands a change can make come or go: any test on bands
 --   EveryCall         each call is that call by the rules: it asks, or is a change; so what is so of every change, and of memory left as it was, is so of all
---   FromEmpty         memory that soundly says a profile accepts what the rules accept on it, and answers as they do
---   TwoBands          by the rules alone: two bands of one open stretch go in where there is room for two nodes and two marks
+--   FromEmpty         on memory that soundly says a profile each call answers what the rules answer on it
+--   TwoBands          by the rules alone: two bands of one open stretch go in where there is room for two nodes and two marks, and not in less
 pub mod ChangesOnly
 pub mod EveryCall
 pub mod FromEmpty

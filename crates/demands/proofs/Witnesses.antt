@@ -1,7 +1,7 @@
 -- Boxes that are shut out because something is there that they could not show: most of it in every memory of right sizes that has the room said, whatever
 -- it held, made empty and given a band or two. There is such a memory for every room in range.
 -- Assumes nothing.
-use Prim.Native.Nat.{ℕ, _≤_}
+use Prim.Native.Nat.{ℕ, _≤_, _<_}
 use mathlib.Core.Path.{_≡_, refl, sym, ap, _∙_}
 use mathlib.Core.Bool.{true}
 use mathlib.Core.Option.{some}
@@ -40,8 +40,8 @@ use Rattle.inserting.proofs.Accepted.{insert-unrefused}
 use Rattle.removing.specs.RemoveCall.{removeIn}
 use Rattle.removing.proofs.Accepted.{remove-unrefused}
 use Rattle.demands.proofs.Lives.{insert-lives, remove-ends}
-use Rattle.demands.proofs.FromEmpty.{room-right, emptied, goes-in, with-band, stabbed, band-read, edge-read, room-read}
-use Rattle.demands.proofs.TwoBands.{spanBand, oneSpan, twoSpans, first-span-goes-in, second-span-goes-in}
+use Rattle.demands.proofs.FromEmpty.{room-right, emptied, insert-answers, with-band, stabbed, band-read, edge-read, room-read}
+use Rattle.demands.proofs.TwoBands.{spanBand, oneSpan, twoSpans, first-span-refused, first-span-goes-in, second-span-goes-in, second-span-refused}
 use Rattle.demands.proofs.NotAlwaysRefused.{some-insert-accepted}
 
 -- ---- the memories spoken of
@@ -74,7 +74,8 @@ pub record StabsDiffer (e : Memory) : Type 0 where
   -- at key 0 number 0 is flagged, and it alone
   pub at-0-flagged : flagAt (zeroStab e 0 .flags) 0 ≡ 1
   pub at-0-count : zeroStab e 0 .count ≡ 1
-  -- at key 1 no number is
+  -- at key 1 it is not, and no other is
+  pub at-1-not-flagged : flagAt (zeroStab e 1 .flags) 0 ≡ 0
   pub at-1-no-flags : zeroStab e 1 .flags ≡ noFlags
   pub at-1-count : zeroStab e 1 .count ≡ 0
 
@@ -92,6 +93,7 @@ module _ (m : Memory) (right : sizesRight (lengthsIn m) ≡ true) where
         at-1-accepted = ap (λ a. a .refusal) (stabbed zero-says 1);
         at-0-flagged = ap (λ a. flagAt (a .read .flags) 0) (stabbed zero-says 0);
         at-0-count = ap (λ a. a .read .count) (stabbed zero-says 0);
+        at-1-not-flagged = ap (λ a. flagAt (a .read .flags) 0) (stabbed zero-says 1);
         at-1-no-flags = ap (λ a. a .read .flags) (stabbed zero-says 1);
         at-1-count = ap (λ a. a .read .count) (stabbed zero-says 1);
       }
@@ -128,7 +130,7 @@ listedAndMarked listed marked = lent (listed .bands) (marked .nodes) (marked .ma
 pub record FoundByMarksAlone (e : Memory) : Type 0 where
   -- where band words have number 0 and node and mark words are those of the empty profile, it lives and is not found
   pub listed-lives : bandIn (listedAndMarked (zeroIn e .after) e) 0 .refusal ≡ 0
-  pub listed-not-found : stabIn (listedAndMarked (zeroIn e .after) e) 0 .read .flags ≡ noFlags
+  pub listed-not-found : flagAt (stabIn (listedAndMarked (zeroIn e .after) e) 0 .read .flags) 0 ≡ 0
   -- where band words are those of the empty profile and node and mark words have its mark, it does not live and is found
   pub marked-not-live : bandIn (listedAndMarked e (zeroIn e .after)) 0 .refusal ≡ 9
   pub marked-found : flagAt (stabIn (listedAndMarked e (zeroIn e .after)) 0 .read .flags) 0 ≡ 1
@@ -163,7 +165,7 @@ module _ (m : Memory) (right : sizesRight (lengthsIn m) ≡ true) where
       let right-w = sizes-of-sound w (one .is-sound) in
       record {
         listed-lives = ap (λ a. a .refusal) (mixed-band w e longer right-e 0 ∙ band-read one 0);
-        listed-not-found = ap (λ a. a .read .flags) (mixed-stab w e longer right-e 0 ∙ stabbed none 0);
+        listed-not-found = ap (λ a. flagAt (a .read .flags) 0) (mixed-stab w e longer right-e 0 ∙ stabbed none 0);
         marked-not-live = ap (λ a. a .refusal) (mixed-band e w (sym longer) right-w 0 ∙ band-read none 0);
         marked-found = ap (λ a. flagAt (a .read .flags) 0) (mixed-stab e w (sym longer) right-w 0 ∙ stabbed one 0);
       }
@@ -211,14 +213,14 @@ pub record MarkedInLane2Alone (e : Memory) : Type 0 where
   pub lane-2-leads : spanEdge e 2 .next ≡ some 20
   -- the band is marked on the edge in lane 2 ..
   pub lane-2-marked : flagAt (spanEdge e 2 .flags) 1 ≡ 1
-  -- .. and on those in lanes 0 and 1 none is
-  pub lane-0-bare : spanEdge e 0 .flags ≡ noFlags
-  pub lane-1-bare : spanEdge e 1 .flags ≡ noFlags
+  -- .. and not on those in lanes 0 and 1
+  pub lane-0-bare : flagAt (spanEdge e 0 .flags) 1 ≡ 0
+  pub lane-1-bare : flagAt (spanEdge e 1 .flags) 1 ≡ 0
 
 -- in every room for two nodes, without which there is no edge
 module _ (m : Memory) (right : sizesRight (lengthsIn m) ≡ true) (nodes : 2 ≤ roomIn m .nodes) where
   span-accepted : spanIn (emptyIn m .after) .refusal ≡ 0
-  span-accepted = goes-in (emptied m right) (spanBand 1) 3 3 (first-span-goes-in (roomIn m) nodes (room-right m right))
+  span-accepted = insert-answers (emptied m right) (spanBand 1) 3 3 ∙ first-span-goes-in (roomIn m) nodes (room-right m right)
 
   span-says : LeavesSound m oneSpan (spanIn (emptyIn m .after) .after)
   span-says = with-band (emptied m right) (spanBand 1) 3 3 span-accepted
@@ -232,9 +234,13 @@ module _ (m : Memory) (right : sizesRight (lengthsIn m) ≡ true) (nodes : 2 ≤
         lane-1-leads = ap (λ a. a .read .next) (edge-read span-says 10 1);
         lane-2-leads = ap (λ a. a .read .next) (edge-read span-says 10 2);
         lane-2-marked = ap (λ a. flagAt (a .read .flags) 1) (edge-read span-says 10 2);
-        lane-0-bare = ap (λ a. a .read .flags) (edge-read span-says 10 0);
-        lane-1-bare = ap (λ a. a .read .flags) (edge-read span-says 10 1);
+        lane-0-bare = ap (λ a. flagAt (a .read .flags) 1) (edge-read span-says 10 0);
+        lane-1-bare = ap (λ a. flagAt (a .read .flags) 1) (edge-read span-says 10 1);
       }
+
+-- .. and in less the insert is refused
+pub span-needs-two-nodes : (m : Memory) → sizesRight (lengthsIn m) ≡ true → roomIn m .nodes < 2 → spanIn (emptyIn m .after) .refusal ≡ 11
+span-needs-two-nodes m right few = insert-answers (emptied m right) (spanBand 1) 3 3 ∙ first-span-refused (roomIn m) few
 
 -- ---- marks the first band well and keeps later ones only on a list
 
@@ -260,7 +266,7 @@ pub record BothMarked (e : Memory) : Type 0 where
 -- in every room for two nodes and two marks, without which no two bands are marked on edges
 module _ (m : Memory) (right : sizesRight (lengthsIn m) ≡ true) (nodes : 2 ≤ roomIn m .nodes) (marks : 2 ≤ roomIn m .marks) where
   two-accepted : twoSpansIn (emptyIn m .after) .refusal ≡ 0
-  two-accepted = goes-in (span-says m right nodes) (spanBand 2) 3 3 (second-span-goes-in (roomIn m) nodes marks)
+  two-accepted = insert-answers (span-says m right nodes) (spanBand 2) 3 3 ∙ second-span-goes-in (roomIn m) nodes marks
 
   two-say : LeavesSound m twoSpans (twoSpansIn (emptyIn m .after) .after)
   two-say = with-band (span-says m right nodes) (spanBand 2) 3 3 two-accepted
@@ -279,3 +285,9 @@ module _ (m : Memory) (right : sizesRight (lengthsIn m) ≡ true) (nodes : 2 ≤
         marks-in-use = ap (λ a. a .read .marks) (room-read two-say);
         both-met = ap (λ a. a .read .met) (stabbed two-say 15);
       }
+
+-- .. and with room for fewer marks the second insert is refused
+pub later-band-needs-two-marks : (m : Memory) → sizesRight (lengthsIn m) ≡ true → 2 ≤ roomIn m .nodes → roomIn m .marks < 2
+    → twoSpansIn (emptyIn m .after) .refusal ≡ 12
+later-band-needs-two-marks m right nodes few =
+    insert-answers (span-says m right nodes) (spanBand 2) 3 3 ∙ second-span-refused (roomIn m) nodes few
