@@ -8,7 +8,7 @@ use Rattle.rules.specs.HallLine.{Band}
 use Rattle.rules.specs.Profile.{Profile, emptyProfile}
 use Rattle.rules.specs.Changes.{inserted}
 use Rattle.rules.specs.Room.{roomInRange}
-use Rattle.rules.specs.BoxSaysNo.{insertRefusal, removeRefusal, stabAnswer, bandReadAnswer, edgeReadAnswer, roomReadAnswer}
+use Rattle.rules.specs.BoxSaysNo.{insertRefusal, removeRefusal, stabAnswer, bandReadAnswer, edgeReadAnswer, nodeReadAnswer, roomReadAnswer}
 use Rattle.store.specs.Sizes.{sizesRight, roomFor}
 use Rattle.store.specs.Memory.{Memory, lengthsIn, roomIn}
 use Rattle.store.specs.ChangeIn.{changeIn}
@@ -18,8 +18,9 @@ use Rattle.store.proofs.ChangeIn.{LeavesSound}
 use Rattle.asking.specs.StabCall.{stabIn}
 use Rattle.asking.specs.BandCall.{bandIn}
 use Rattle.asking.specs.EdgeCall.{edgeIn}
+use Rattle.asking.specs.NodeCall.{nodeIn}
 use Rattle.asking.specs.RoomCall.{roomReadIn}
-use Rattle.asking.proofs.OnSound.{stab-on-sound, band-on-sound, edge-on-sound, room-on-sound}
+use Rattle.asking.proofs.OnSound.{stab-on-sound, band-on-sound, edge-on-sound, node-on-sound, room-on-sound}
 use Rattle.emptying.specs.EmptyCall.{emptyIn}
 use Rattle.emptying.proofs.EmptyExact.{empty-makes}
 use Rattle.inserting.specs.InsertCall.{insertRefusalIn, insertIn}
@@ -69,6 +70,9 @@ module _ {m w : Memory} {p : Profile} (is : LeavesSound m p w) where
 
   pub edge-read : (k lane : ℕ) → edgeIn w k lane ≡ edgeReadAnswer true p k lane
   edge-read k lane = edge-on-sound w (is .is-sound) k lane ∙ ap (λ q. edgeReadAnswer true q k lane) (is .says)
+
+  pub node-read : (k : ℕ) → nodeIn w k ≡ nodeReadAnswer true p k
+  node-read k = node-on-sound w (is .is-sound) k ∙ ap (λ q. nodeReadAnswer true q k) (is .says)
 
   pub room-read : roomReadIn w ≡ roomReadAnswer true p
   room-read = room-on-sound w (is .is-sound) ∙ ap (roomReadAnswer true) (is .says)

@@ -11,7 +11,8 @@
 --   KeepsSound        every call leaves sound memory sound (and every memory as long as it was)
 -- .. from an empty profile on:
 --   NotAlwaysRefused  a one-key band is inserted into an empty profile, and removed again, in every room
---   Witnesses         something is there that a wrong box could not show: keys whose stabs differ, a mark in lane 2 alone, two bands marked, and so on
+--   Witnesses         something is there that a wrong box could not show: keys whose stabs differ, a mark in lane 2 alone, two bands marked on an edge
+--   MarksAlone        bands are found and read by node and mark words, whatever the list of bands has
 --   AlwaysSound       after any calls memory is sound, stabs are exact and the readouts show exactly what the rule marks
 --   AlwaysRuled       .. and memory is the one memory of the profile that the rules come to by those calls
 -- In Lives, Found, LevelStays, Alone and Local each law is proved once, of every change (`change-..`); insert and remove are instances.
@@ -34,6 +35,7 @@ pub mod Local
 pub mod AnyOutcome
 pub mod NotAlwaysRefused
 pub mod Witnesses
+pub mod MarksAlone
 pub mod KeepsSound
 pub mod AlwaysSound
 pub mod AlwaysRuled

@@ -2,12 +2,10 @@
 -- it held, made empty and given a band or two. There is such a memory for every room in range.
 -- Assumes nothing.
 use Prim.Native.Nat.{ℕ, _≤_, _<_}
-use mathlib.Core.Path.{_≡_, refl, sym, ap, _∙_}
+use mathlib.Core.Path.{_≡_, ap, _∙_}
 use mathlib.Core.Bool.{true}
 use mathlib.Core.Option.{some}
 use native.Mathlib.Omega.{arith}
-use lib.ListN.{length}
-use Rattle.rules.specs.HallLine.{Band}
 use Rattle.rules.specs.Profile.{emptyProfile}
 use Rattle.rules.specs.Changes.{inserted}
 use Rattle.rules.specs.Flags.{flagAt}
@@ -21,25 +19,18 @@ use Rattle.rules.proofs.BoxSaysNo.{fit-refusal-zero}
 use Rattle.rules.proofs.SoundMemory.{standing-means, sound-where-fits}
 use Rattle.rules.proofs.Theory.StandingKept.{empty-stands}
 use Rattle.rules.proofs.Theory.OneBand.{zeroBand}
-use Rattle.store.specs.Sizes.{lengthsOf, sizesRight}
-use Rattle.store.specs.Memory.{Memory, lent, lengthsIn, roomIn}
+use Rattle.store.specs.Sizes.{sizesRight}
+use Rattle.store.specs.Memory.{Memory, lengthsIn, roomIn}
 use Rattle.store.specs.LaidMemory.{laidMemory}
-use Rattle.store.specs.ChangeIn.{changeIn}
 use Rattle.store.proofs.LaidSound.{laid-room, laid-sound}
 use Rattle.store.proofs.SaidStands.{sizes-of-sound}
 use Rattle.store.proofs.ChangeIn.{LeavesSound}
 use Rattle.asking.specs.StabCall.{stabIn}
-use Rattle.asking.specs.BandCall.{bandRefusalIn, bandIn}
+use Rattle.asking.specs.BandCall.{bandIn}
 use Rattle.asking.specs.EdgeCall.{edgeIn}
 use Rattle.asking.specs.RoomCall.{roomReadIn}
-use Rattle.asking.proofs.BandExact.{band-exact, band-refused-9}
-use Rattle.asking.proofs.Alike.{stabs-alike}
 use Rattle.emptying.specs.EmptyCall.{emptyIn}
 use Rattle.inserting.specs.InsertCall.{insertIn}
-use Rattle.inserting.proofs.Accepted.{insert-unrefused}
-use Rattle.removing.specs.RemoveCall.{removeIn}
-use Rattle.removing.proofs.Accepted.{remove-unrefused}
-use Rattle.demands.proofs.Lives.{insert-lives, remove-ends}
 use Rattle.demands.proofs.FromEmpty.{room-right, emptied, insert-answers, with-band, stabbed, band-read, edge-read, room-read}
 use Rattle.demands.proofs.TwoBands.{spanBand, oneSpan, twoSpans, first-span-refused, first-span-goes-in, second-span-goes-in, second-span-refused}
 use Rattle.demands.proofs.NotAlwaysRefused.{some-insert-accepted}
@@ -81,7 +72,7 @@ pub record StabsDiffer (e : Memory) : Type 0 where
 
 -- in every room
 module _ (m : Memory) (right : sizesRight (lengthsIn m) ≡ true) where
-  zero-says : LeavesSound m (inserted emptyProfile zeroBand 1 1) (zeroIn (emptyIn m .after) .after)
+  pub zero-says : LeavesSound m (inserted emptyProfile zeroBand 1 1) (zeroIn (emptyIn m .after) .after)
   zero-says = with-band (emptied m right) zeroBand 1 1 (some-insert-accepted m right)
 
   pub stab-not-constant : StabsDiffer (emptyIn m .after)
@@ -121,80 +112,6 @@ module _ (m : Memory) (right : sizesRight (lengthsIn m) ≡ true) where
         at-1-looks = ap (λ a. a .read .looks) (stabbed says 1);
       }
 
--- ---- marks never stored but worked out from the list
-
--- the band words of one memory with the node and mark words of another
-abbrev pub listedAndMarked : Memory → Memory → Memory
-listedAndMarked listed marked = lent (listed .bands) (marked .nodes) (marked .marks)
-
-pub record FoundByMarksAlone (e : Memory) : Type 0 where
-  -- where band words have number 0 and node and mark words are those of the empty profile, it lives and is not found
-  pub listed-lives : bandIn (listedAndMarked (zeroIn e .after) e) 0 .refusal ≡ 0
-  pub listed-not-found : flagAt (stabIn (listedAndMarked (zeroIn e .after) e) 0 .read .flags) 0 ≡ 0
-  -- where band words are those of the empty profile and node and mark words have its mark, it does not live and is found
-  pub marked-not-live : bandIn (listedAndMarked e (zeroIn e .after)) 0 .refusal ≡ 9
-  pub marked-found : flagAt (stabIn (listedAndMarked e (zeroIn e .after)) 0 .read .flags) 0 ≡ 1
-
--- the band readout reads lengths and band words alone
-bands-alike : (m w : Memory) → sizesRight (lengthsIn m) ≡ true → sizesRight (lengthsIn w) ≡ true → m .bands ≡ w .bands
-    → (number : ℕ) → bandIn m number ≡ bandIn w number
-unfolding bandIn bandRefusalIn
-bands-alike m w right-m right-w bands number = rw (right-m, right-w, bands)
-
--- the band words of one and the node and mark words of another are of right sizes where both are of one length
-module _ (listed marked : Memory) (same : lengthsIn listed ≡ lengthsIn marked) (right : sizesRight (lengthsIn marked) ≡ true) where
-  mixed-right : sizesRight (lengthsIn (listedAndMarked listed marked)) ≡ true
-  mixed-right = (λ i. sizesRight (lengthsOf (same i .bands) (length (marked .nodes)) (length (marked .marks)))) ∙ right
-
-  mixed-band : (number : ℕ) → bandIn (listedAndMarked listed marked) number ≡ bandIn listed number
-  mixed-band = bands-alike (listedAndMarked listed marked) listed mixed-right (ap sizesRight same ∙ right) refl
-
-  mixed-stab : (k : ℕ) → stabIn (listedAndMarked listed marked) k ≡ stabIn marked k
-  mixed-stab = stabs-alike (listedAndMarked listed marked) marked mixed-right right refl refl
-
-module _ (m : Memory) (right : sizesRight (lengthsIn m) ≡ true) where
-  pub found-by-marks-alone : FoundByMarksAlone (emptyIn m .after)
-  unfolding computes
-  found-by-marks-alone =
-      let e = emptyIn m .after in
-      let w = zeroIn e .after in
-      let none = emptied m right in
-      let one = zero-says m right in
-      let longer = one .same-lengths ∙ sym (none .same-lengths) in
-      let right-e = sizes-of-sound e (none .is-sound) in
-      let right-w = sizes-of-sound w (one .is-sound) in
-      record {
-        listed-lives = ap (λ a. a .refusal) (mixed-band w e longer right-e 0 ∙ band-read one 0);
-        listed-not-found = ap (λ a. flagAt (a .read .flags) 0) (mixed-stab w e longer right-e 0 ∙ stabbed none 0);
-        marked-not-live = ap (λ a. a .refusal) (mixed-band e w (sym longer) right-w 0 ∙ band-read none 0);
-        marked-found = ap (λ a. flagAt (a .read .flags) 0) (mixed-stab e w (sym longer) right-w 0 ∙ stabbed one 0);
-      }
-
--- ---- an insert that stores nothing, a remove that takes nothing away
-
--- on any memory: after an accepted insert, or remove, it is another than before
-module _ (m : Memory) where
-  pub insert-stores : (b : Band) (lo hi : ℕ) → insertIn m b lo hi .refusal ≡ 0 → insertIn m b lo hi .after ≡ m → ⊥
-  unfolding insertIn changeIn
-  insert-stores b lo hi z same =
-      let judged = insert-unrefused m b lo hi z .judged in
-      let right = sizes-of-sound m (judged .memory-right) in
-      let before = band-refused-9 m right (b .number) (judged .band-right .number-right) .1 (judged .number-free) in
-      let after = ap (λ a. a .refusal) (insert-lives m b lo hi z) in
-      let now = ap (λ w. bandIn w (b .number) .refusal) same in
-      omega (arith, before, after, now)
-
-  pub remove-takes-away : (number scope : ℕ) → removeIn m number scope .refusal ≡ 0 → removeIn m number scope .after ≡ m → ⊥
-  unfolding removeIn changeIn
-  remove-takes-away number scope z same =
-      let judged = remove-unrefused m number scope z .judged in
-      let live = judged .number-live in
-      let before = ap (λ a. a .refusal) (band-exact m (sizes-of-sound m (judged .memory-right)) (live .0) (live .1)) in
-      let after = ap (λ a. a .refusal) (remove-ends m number scope z) in
-      let now = ap (λ w. bandIn w number .refusal) same in
-      let called = ap (λ n. bandIn m n .refusal) (live .2) in
-      omega (arith, before, after, now, called)
-
 -- ---- marks all in lane 0
 
 -- what comes of the insert of number 1, the house band (10,20), with levels 3 and 3, into memory e
@@ -222,7 +139,7 @@ module _ (m : Memory) (right : sizesRight (lengthsIn m) ≡ true) (nodes : 2 ≤
   span-accepted : spanIn (emptyIn m .after) .refusal ≡ 0
   span-accepted = insert-answers (emptied m right) (spanBand 1) 3 3 ∙ first-span-goes-in (roomIn m) nodes (room-right m right)
 
-  span-says : LeavesSound m oneSpan (spanIn (emptyIn m .after) .after)
+  pub span-says : LeavesSound m oneSpan (spanIn (emptyIn m .after) .after)
   span-says = with-band (emptied m right) (spanBand 1) 3 3 span-accepted
 
   pub marks-not-all-in-lane-0 : MarkedInLane2Alone (emptyIn m .after)
