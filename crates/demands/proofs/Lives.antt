@@ -6,6 +6,7 @@ use mathlib.Core.Path.{_≡_, refl, sym, _∙_, ap, subst}
 use mathlib.Core.Bool.{true}
 use mathlib.Core.Logic.{inl}
 use mathlib.Core.Option.{none, some}
+use native.Mathlib.Omega.{arith}
 use Rattle.rules.specs.HallLine.{Band, highestBandNumber}
 use Rattle.rules.specs.Profile.{Profile}
 use Rattle.rules.specs.Changes.{inserted, removed}
@@ -24,8 +25,8 @@ use Rattle.asking.specs.BandCall.{bandIn}
 use Rattle.inserting.specs.InsertCall.{insertRefusalIn, insertIn}
 use Rattle.removing.specs.RemoveCall.{removeRefusalIn, removeIn}
 use Rattle.asking.proofs.OnSound.{band-on-sound}
-use Rattle.asking.proofs.BandExact.{band-exact}
-use Rattle.inserting.proofs.Accepted.{insert-fitting}
+use Rattle.asking.proofs.BandExact.{band-exact, band-refused-9}
+use Rattle.inserting.proofs.Accepted.{insert-fitting, insert-unrefused}
 use Rattle.removing.proofs.Accepted.{remove-fitting, remove-unrefused}
 use Rattle.demands.proofs.ChangesOnly.{ChangesOnly, insert-changes-only, remove-changes-its-number}
 
@@ -102,3 +103,27 @@ module _ (m : Memory) where
   remove-ends number scope z =
       change-ends m (removeRefusalIn m number scope) (removed (saidProfile m) number) (remove-fitting m number scope) z number
       (remove-unrefused m number scope z .judged .number-right) (λ b i e. in-removed-bands (saidProfile m) number b .0 i .1 e)
+
+-- ---- so an insert that stores nothing, and a remove that takes nothing away, are shut out: memory is another than before
+
+module _ (m : Memory) where
+  pub insert-stores : (b : Band) (lo hi : ℕ) → insertIn m b lo hi .refusal ≡ 0 → insertIn m b lo hi .after ≡ m → ⊥
+  unfolding insertIn changeIn
+  insert-stores b lo hi z same =
+      let judged = insert-unrefused m b lo hi z .judged in
+      let right = sizes-of-sound m (judged .memory-right) in
+      let before = band-refused-9 m right (b .number) (judged .band-right .number-right) .1 (judged .number-free) in
+      let after = ap (λ a. a .refusal) (insert-lives m b lo hi z) in
+      let now = ap (λ w. bandIn w (b .number) .refusal) same in
+      omega (arith, before, after, now)
+
+  pub remove-takes-away : (number scope : ℕ) → removeIn m number scope .refusal ≡ 0 → removeIn m number scope .after ≡ m → ⊥
+  unfolding removeIn changeIn
+  remove-takes-away number scope z same =
+      let judged = remove-unrefused m number scope z .judged in
+      let live = judged .number-live in
+      let before = ap (λ a. a .refusal) (band-exact m (sizes-of-sound m (judged .memory-right)) (live .0) (live .1)) in
+      let after = ap (λ a. a .refusal) (remove-ends m number scope z) in
+      let now = ap (λ w. bandIn w number .refusal) same in
+      let called = ap (λ n. bandIn m n .refusal) (live .2) in
+      omega (arith, before, after, now, called)
