@@ -1,10 +1,11 @@
 -- What each call that asks comes to.
 -- On any memory:
 --   AskingRefused     each number of each call, in plain words
---   RefusedZeros      refused, a stab or readout answers zeros throughout
+--   RefusedZeros      refused, a stab or readout answers zeros throughout, word for word
 --   Alike             stab, edge and node readout are the same where header, node and mark words are
 --   StabCounts        a stab's count is the number of set flags
---   Settled           no second answer meets a call's promise
+--   Settled           no second outcome meets a call's promise, and what meets it leaves memory as it was
+--   AnyAnswer         what each answer tells that meets its call's promise: all of these laws and those below, said of the answer itself
 -- On memory of right sizes:
 --   BandExact         the band readout in plain words
 -- On sound memory:
@@ -35,3 +36,4 @@ pub mod RoomExact
 pub mod AskingRefused
 pub mod RefusedZeros
 pub mod MarkedByRule
+pub mod AnyAnswer
