@@ -44,11 +44,8 @@ use Rattle.asking.proofs.BandExact.{band-exact}
 use Rattle.asking.proofs.EdgeExact.{ExactEdge, edge-exact}
 use Rattle.asking.proofs.NodeExact.{ExactNode, node-exact}
 use Rattle.asking.proofs.RoomExact.{room-exact}
-use Rattle.asking.proofs.stabbing.stab.Reads.{Post as stabPromise}
-use Rattle.asking.proofs.band_readout.band.Reads.{Post as bandPromise}
-use Rattle.asking.proofs.edge_readout.edge.Reads.{Post as edgePromise}
-use Rattle.asking.proofs.node_readout.node.Reads.{Post as nodePromise}
-use Rattle.asking.proofs.room_readout.room.Reads.{Post as roomPromise}
+use Rattle.asking.proofs.Promises.{StabPromise, BandPromise, EdgePromise, NodePromise, RoomPromise}
+use Rattle.asking.proofs.Promises.{StabPromise, BandPromise, EdgePromise, NodePromise, RoomPromise}
 
 -- ---- what is told of a memory
 
@@ -145,21 +142,21 @@ module _ (m : Memory) where
 -- ---- and so does whatever meets a promise
 
 module _ (κs : Lfts 3) where
-  pub any-stab : (given after : Lent (Key × Unit {0})) (r : StabRead) → stabPromise κs given r after
+  pub any-stab : (given after : Lent (Key × Unit {0})) (r : StabRead) → StabPromise κs given r after
       → StabTold (lentMemory given) (alsoGiven given .0 .0) (stabSays r) × SameWords after given
   any-stab given after r met =
       let m = lentMemory given in
       let k = alsoGiven given .0 .0 in
       (subst (StabTold m k) (sym (what-was-told given after met)) (stab-told m k), words-left given after met)
 
-  pub any-band : (given after : Lent (ℕ × Unit {0})) (r : BandRead) → bandPromise κs given r after
+  pub any-band : (given after : Lent (ℕ × Unit {0})) (r : BandRead) → BandPromise κs given r after
       → BandTold (lentMemory given) (alsoGiven given .0) (bandReadSays r) × SameWords after given
   any-band given after r met =
       let m = lentMemory given in
       let number = alsoGiven given .0 in
       (subst (BandTold m number) (sym (what-was-told given after met)) (band-told m number), words-left given after met)
 
-  pub any-edge : (given after : Lent (Key × (ℕ × Unit {0}))) (r : EdgeRead) → edgePromise κs given r after
+  pub any-edge : (given after : Lent (Key × (ℕ × Unit {0}))) (r : EdgeRead) → EdgePromise κs given r after
       → EdgeTold (lentMemory given) (alsoGiven given .0 .0) (alsoGiven given .1 .0) (edgeReadSays r) × SameWords after given
   any-edge given after r met =
       let m = lentMemory given in
@@ -167,14 +164,14 @@ module _ (κs : Lfts 3) where
       let lane = alsoGiven given .1 .0 in
       (subst (EdgeTold m k lane) (sym (what-was-told given after met)) (edge-told m k lane), words-left given after met)
 
-  pub any-node : (given after : Lent (Key × Unit {0})) (r : NodeRead) → nodePromise κs given r after
+  pub any-node : (given after : Lent (Key × Unit {0})) (r : NodeRead) → NodePromise κs given r after
       → NodeTold (lentMemory given) (alsoGiven given .0 .0) (nodeReadSays r) × SameWords after given
   any-node given after r met =
       let m = lentMemory given in
       let k = alsoGiven given .0 .0 in
       (subst (NodeTold m k) (sym (what-was-told given after met)) (node-told m k), words-left given after met)
 
-  pub any-room : (given after : Lent (Unit {0})) (r : RoomRead) → roomPromise κs given r after
+  pub any-room : (given after : Lent (Unit {0})) (r : RoomRead) → RoomPromise κs given r after
       → RoomTold (lentMemory given) (roomReadSays r) × SameWords after given
   any-room given after r met =
       let m = lentMemory given in

@@ -12,11 +12,13 @@
 --   StabExact, EdgeExact, NodeExact, RoomExact    each call in plain words
 --   MarkedByRule      edge and node readouts show exactly the marks that the rule gives, and the room readout their number
 --   ByProfile         each stab and readout is a function of the profile alone
--- What these are proved with:
+-- What these are stated and proved with:
+--   Promises          the promise of each call, by name
 --   CallLines         what a call answers, from plain facts on memory and arguments: a law for each place where its code returns
 --   BandOnAny         the band readout is the rules' own on the bands that the words say
 --   StabOnLaid, EdgeOnLaid, NodeOnLaid, RoomOnLaid    the calls are the rules' own where words lay a standing profile
 --   OnSound           .. and so on sound memory, on the profile that the words say
+pub mod Promises
 pub mod CallLines
 pub mod BandOnAny
 pub mod Alike

@@ -14,11 +14,8 @@ use Rattle.hall.specs.declared.reads.BandRead.{BandRead}
 use Rattle.hall.specs.declared.reads.EdgeRead.{EdgeRead}
 use Rattle.hall.specs.declared.reads.NodeRead.{NodeRead}
 use Rattle.hall.specs.declared.reads.RoomRead.{RoomRead}
-use Rattle.asking.proofs.stabbing.stab.Reads.{Post as stabPromise}
-use Rattle.asking.proofs.band_readout.band.Reads.{Post as bandPromise}
-use Rattle.asking.proofs.edge_readout.edge.Reads.{Post as edgePromise}
-use Rattle.asking.proofs.node_readout.node.Reads.{Post as nodePromise}
-use Rattle.asking.proofs.room_readout.room.Reads.{Post as roomPromise}
+use Rattle.asking.proofs.Promises.{StabPromise, BandPromise, EdgePromise, NodePromise, RoomPromise}
+use Rattle.asking.proofs.Promises.{StabPromise, BandPromise, EdgePromise, NodePromise, RoomPromise}
 use Rattle.hall.specs.declared.keys.Key.{Key}
 
 -- ---- what an answer says tells it back
@@ -65,22 +62,22 @@ room-told-back a b same =
 -- ---- the promises
 
 module _ (κs : Lfts 3) where
-  pub stab-settled : (given x y : Lent (Key × Unit {0})) (a b : StabRead) → stabPromise κs given a x → stabPromise κs given b y
+  pub stab-settled : (given x y : Lent (Key × Unit {0})) (a b : StabRead) → StabPromise κs given a x → StabPromise κs given b y
       → (a ≡ b) × SameWords x y × SameWords x given
   stab-settled given x y a b p q = let same = asked-settled given x y p q in (stab-told-back a b (same .0), same .1, same .2)
 
-  pub band-settled : (given x y : Lent (ℕ × Unit {0})) (a b : BandRead) → bandPromise κs given a x → bandPromise κs given b y
+  pub band-settled : (given x y : Lent (ℕ × Unit {0})) (a b : BandRead) → BandPromise κs given a x → BandPromise κs given b y
       → (a ≡ b) × SameWords x y × SameWords x given
   band-settled given x y a b p q = let same = asked-settled given x y p q in (band-told-back a b (same .0), same .1, same .2)
 
-  pub edge-settled : (given x y : Lent (Key × (ℕ × Unit {0}))) (a b : EdgeRead) → edgePromise κs given a x → edgePromise κs given b y
+  pub edge-settled : (given x y : Lent (Key × (ℕ × Unit {0}))) (a b : EdgeRead) → EdgePromise κs given a x → EdgePromise κs given b y
       → (a ≡ b) × SameWords x y × SameWords x given
   edge-settled given x y a b p q = let same = asked-settled given x y p q in (edge-told-back a b (same .0), same .1, same .2)
 
-  pub node-settled : (given x y : Lent (Key × Unit {0})) (a b : NodeRead) → nodePromise κs given a x → nodePromise κs given b y
+  pub node-settled : (given x y : Lent (Key × Unit {0})) (a b : NodeRead) → NodePromise κs given a x → NodePromise κs given b y
       → (a ≡ b) × SameWords x y × SameWords x given
   node-settled given x y a b p q = let same = asked-settled given x y p q in (node-told-back a b (same .0), same .1, same .2)
 
-  pub room-settled : (given x y : Lent (Unit {0})) (a b : RoomRead) → roomPromise κs given a x → roomPromise κs given b y
+  pub room-settled : (given x y : Lent (Unit {0})) (a b : RoomRead) → RoomPromise κs given a x → RoomPromise κs given b y
       → (a ≡ b) × SameWords x y × SameWords x given
   room-settled given x y a b p q = let same = asked-settled given x y p q in (room-told-back a b (same .0), same .1, same .2)

@@ -17,7 +17,7 @@ use Rattle.store.proofs.Sound.{sound-means}
 use Rattle.store.proofs.LaidSound.{laid-sound}
 use Rattle.store.proofs.LentWords.{Lent, lentMemory, SameWords}
 use Rattle.store.proofs.OnlyAsked.{what-was-told, words-left}
-use Rattle.checking.proofs.whole_profile.check.Reads.{Post as checkPromise}
+use Rattle.checking.proofs.Promise.{CheckPromise}
 
 -- the memory is the one memory of a profile that is sound in a room
 abbrev pub OneMemory : Memory → Type 0
@@ -30,6 +30,6 @@ sound-exact m answer says =
       test = λ s. says ∙ subst (λ w. sound w ≡ true) (sym (s .3)) (laid-sound (s .0) (s .1) (s .2));
     }
 
-pub check-exact : (κs : Lfts 3) (given after : Lent (Unit {0})) (answer : Bool) → checkPromise κs given answer after
+pub check-exact : (κs : Lfts 3) (given after : Lent (Unit {0})) (answer : Bool) → CheckPromise κs given answer after
     → Means answer (OneMemory (lentMemory given)) × SameWords after given
 check-exact κs given after answer met = (sound-exact (lentMemory given) answer (what-was-told given after met), words-left given after met)

@@ -7,9 +7,8 @@ use mathlib.Core.Path.{_≡_}
 use mathlib.Core.Bool.{Bool}
 use Rattle.store.proofs.LentWords.{Lent, SameWords}
 use Rattle.store.proofs.OnlyAsked.{asked-settled}
-use Rattle.checking.proofs.whole_profile.check.Reads.{Post as checkPromise}
+use Rattle.checking.proofs.Promise.{CheckPromise}
 
--- it is given the three slices and nothing else
-pub check-settled : (κs : Lfts 3) (given x y : Lent (Unit {0})) (a b : Bool) → checkPromise κs given a x → checkPromise κs given b y
+pub check-settled : (κs : Lfts 3) (given x y : Lent (Unit {0})) (a b : Bool) → CheckPromise κs given a x → CheckPromise κs given b y
     → (a ≡ b) × SameWords x y × SameWords x given
 check-settled κs given x y a b p q = asked-settled given x y p q

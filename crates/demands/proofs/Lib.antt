@@ -1,4 +1,5 @@
 -- What is demanded of the calls, as theorems, on any memory:
+--   AsPromised        the number and the memory that a call comes to which only asks are those that its promise says
 --   RefusedExactly    a call answers the first line of its own that applies, and 0 exactly when none does
 --   RefusedUnchanged  refused, a change leaves all memory as it was
 --   Lives             an accepted insert makes the band live as given, a remove ends it, and no other band changes
@@ -15,6 +16,7 @@
 -- What these are proved with:
 --   ChangesOnly       which bands a change can make come or go: any test on bands
 --   EveryCall         each call is that call by the rules: it asks, or is a change; so what is so of every change, and of memory left as it was, is so of all
+pub mod AsPromised
 pub mod ChangesOnly
 pub mod EveryCall
 pub mod RefusedExactly
