@@ -72,11 +72,14 @@ pub record EdgeGivesOf (p : Profile) (k lane n : ℕ) : Type 0 where
 
 module _ (m : Memory) (k lane : ℕ) where
   -- by the words of any memory: no place is found for the key, or the lane is above 7 or not below the level that stands at the place
-  pub edge-refused-exactly :
+  abbrev pub EdgeGivesIn : ℕ → Type 0
+  EdgeGivesIn n =
       ThereGives (sizesRight (lengthsIn m))
       ((placeOf (m .nodes) k ≡ 0) ⊎ ((lanes ≤ lane) ⊎ (nodeField (m .nodes) (placeOf (m .nodes) k) levelField ≤ lane)))
       ((placeOf (m .nodes) k ≡ 0 → ⊥) × ((lane < lanes) × (lane < nodeField (m .nodes) (placeOf (m .nodes) k) levelField)))
-      k (edgeIn m k lane .refusal)
+      k n
+
+  pub edge-refused-exactly : EdgeGivesIn (edgeIn m k lane .refusal)
   unfolding edgeIn edgeRefusalIn
   edge-refused-exactly =
       let place = placeOf (m .nodes) k in
@@ -121,8 +124,10 @@ pub record NodeGivesOf (p : Profile) (k n : ℕ) : Type 0 where
 
 module _ (m : Memory) (k : ℕ) where
   -- by the words of any memory: no place is found for the key
-  pub node-refused-exactly :
-      ThereGives (sizesRight (lengthsIn m)) (placeOf (m .nodes) k ≡ 0) (placeOf (m .nodes) k ≡ 0 → ⊥) k (nodeIn m k .refusal)
+  abbrev pub NodeGivesIn : ℕ → Type 0
+  NodeGivesIn n = ThereGives (sizesRight (lengthsIn m)) (placeOf (m .nodes) k ≡ 0) (placeOf (m .nodes) k ≡ 0 → ⊥) k n
+
+  pub node-refused-exactly : NodeGivesIn (nodeIn m k .refusal)
   unfolding nodeIn nodeRefusalIn
   node-refused-exactly =
       let place = placeOf (m .nodes) k in

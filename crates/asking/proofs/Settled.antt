@@ -1,33 +1,27 @@
--- No second answer meets a call's promise: of two that meet what its `ensures` says, whatever it was lent and given, the answers are equal with every
--- value beside them. Stated of the promise itself: one that said less would not settle the answer. What is lent to be read cannot change.
+-- No second outcome meets a call's promise: of two that meet what its `ensures` says, whatever it was lent and given, the answers are equal with every
+-- value beside them and all three slices, which are those that it was lent. Stated of the promise itself: one that said less would not settle the outcome.
 -- Assumes nothing.
 use Prim.{Unit}
 use contract.Lifetimes.{Lfts}
 use Prim.Native.Nat.{ℕ}
-use mathlib.Core.Path.{_≡_, sym, _∙_, ap}
-use Rattle.rules.specs.Search.{Stab}
-use Rattle.rules.specs.Readouts.{BandRead as RuledBandRead, EdgeRead as RuledEdgeRead, NodeRead as RuledNodeRead, RoomRead as RuledRoomRead}
-use Rattle.rules.specs.BoxSaysNo.{Answered}
+use mathlib.Core.Path.{_≡_, ap}
 use Rattle.hall.proofs.OneToOne.{answer-one-to-one, next-key-one-to-one}
-use Rattle.store.proofs.LentWords.{Lent}
+use Rattle.store.proofs.LentWords.{Lent, SameWords}
+use Rattle.store.proofs.OnlyAsked.{asked-settled}
 use Rattle.asking.specs.Says.{stabSays, bandReadSays, edgeReadSays, nodeReadSays, roomReadSays}
 use Rattle.hall.specs.declared.reads.StabRead.{StabRead}
 use Rattle.hall.specs.declared.reads.BandRead.{BandRead}
 use Rattle.hall.specs.declared.reads.EdgeRead.{EdgeRead}
 use Rattle.hall.specs.declared.reads.NodeRead.{NodeRead}
 use Rattle.hall.specs.declared.reads.RoomRead.{RoomRead}
-use Rattle.asking.proofs.stabbing.stab.Reads.{Post as stabPromise}
-use Rattle.asking.proofs.band_readout.band.Reads.{Post as bandPromise}
-use Rattle.asking.proofs.edge_readout.edge.Reads.{Post as edgePromise}
-use Rattle.asking.proofs.node_readout.node.Reads.{Post as nodePromise}
-use Rattle.asking.proofs.room_readout.room.Reads.{Post as roomPromise}
+use Rattle.asking.proofs.Promises.{StabPromise, BandPromise, EdgePromise, NodePromise, RoomPromise}
+use Rattle.asking.proofs.Promises.{StabPromise, BandPromise, EdgePromise, NodePromise, RoomPromise}
 use Rattle.hall.specs.declared.keys.Key.{Key}
 
 -- ---- what an answer says tells it back
 
-stab-told-back : {said : Answered Stab} (a b : StabRead) → stabSays a ≡ said → stabSays b ≡ said → a ≡ b
-stab-told-back a b e f =
-    let same = e ∙ sym f in
+stab-told-back : (a b : StabRead) → stabSays a ≡ stabSays b → a ≡ b
+stab-told-back a b same =
     let answer = answer-one-to-one (a .answer) (b .answer) (ap (λ s. s .refusal) same) in
     λ i. record {
       answer = answer i;
@@ -37,9 +31,8 @@ stab-told-back a b e f =
       looks = same i .read .looks;
     }
 
-band-told-back : {said : Answered RuledBandRead} (a b : BandRead) → bandReadSays a ≡ said → bandReadSays b ≡ said → a ≡ b
-band-told-back a b e f =
-    let same = e ∙ sym f in
+band-told-back : (a b : BandRead) → bandReadSays a ≡ bandReadSays b → a ≡ b
+band-told-back a b same =
     let answer = answer-one-to-one (a .answer) (b .answer) (ap (λ s. s .refusal) same) in
     λ i. record {
       answer = answer i;
@@ -50,39 +43,41 @@ band-told-back a b e f =
       «high_closed» = same i .read .highClosed;
     }
 
-edge-told-back : {said : Answered RuledEdgeRead} (a b : EdgeRead) → edgeReadSays a ≡ said → edgeReadSays b ≡ said → a ≡ b
-edge-told-back a b e f =
-    let same = e ∙ sym f in
+edge-told-back : (a b : EdgeRead) → edgeReadSays a ≡ edgeReadSays b → a ≡ b
+edge-told-back a b same =
     let answer = answer-one-to-one (a .answer) (b .answer) (ap (λ s. s .refusal) same) in
     let next = next-key-one-to-one (a .next) (b .next) (ap (λ s. s .read .next) same) in
     λ i. record { answer = answer i; next = next i; flags = same i .read .flags }
 
-node-told-back : {said : Answered RuledNodeRead} (a b : NodeRead) → nodeReadSays a ≡ said → nodeReadSays b ≡ said → a ≡ b
-node-told-back a b e f =
-    let same = e ∙ sym f in
+node-told-back : (a b : NodeRead) → nodeReadSays a ≡ nodeReadSays b → a ≡ b
+node-told-back a b same =
     let answer = answer-one-to-one (a .answer) (b .answer) (ap (λ s. s .refusal) same) in
     λ i. record { answer = answer i; level = same i .read .level; flags = same i .read .flags }
 
-room-told-back : {said : Answered RuledRoomRead} (a b : RoomRead) → roomReadSays a ≡ said → roomReadSays b ≡ said → a ≡ b
-room-told-back a b e f =
-    let same = e ∙ sym f in
+room-told-back : (a b : RoomRead) → roomReadSays a ≡ roomReadSays b → a ≡ b
+room-told-back a b same =
     let answer = answer-one-to-one (a .answer) (b .answer) (ap (λ s. s .refusal) same) in
     λ i. record { answer = answer i; nodes = same i .read .nodes; marks = same i .read .marks }
 
 -- ---- the promises
 
 module _ (κs : Lfts 3) where
-  pub stab-settled : (given x y : Lent (Key × Unit {0})) (a b : StabRead) → stabPromise κs given a x → stabPromise κs given b y → a ≡ b
-  stab-settled given x y a b p q = stab-told-back a b p q
+  pub stab-settled : (given x y : Lent (Key × Unit {0})) (a b : StabRead) → StabPromise κs given a x → StabPromise κs given b y
+      → (a ≡ b) × SameWords x y × SameWords x given
+  stab-settled given x y a b p q = let same = asked-settled given x y p q in (stab-told-back a b (same .0), same .1, same .2)
 
-  pub band-settled : (given x y : Lent (ℕ × Unit {0})) (a b : BandRead) → bandPromise κs given a x → bandPromise κs given b y → a ≡ b
-  band-settled given x y a b p q = band-told-back a b p q
+  pub band-settled : (given x y : Lent (ℕ × Unit {0})) (a b : BandRead) → BandPromise κs given a x → BandPromise κs given b y
+      → (a ≡ b) × SameWords x y × SameWords x given
+  band-settled given x y a b p q = let same = asked-settled given x y p q in (band-told-back a b (same .0), same .1, same .2)
 
-  pub edge-settled : (given x y : Lent (Key × (ℕ × Unit {0}))) (a b : EdgeRead) → edgePromise κs given a x → edgePromise κs given b y → a ≡ b
-  edge-settled given x y a b p q = edge-told-back a b p q
+  pub edge-settled : (given x y : Lent (Key × (ℕ × Unit {0}))) (a b : EdgeRead) → EdgePromise κs given a x → EdgePromise κs given b y
+      → (a ≡ b) × SameWords x y × SameWords x given
+  edge-settled given x y a b p q = let same = asked-settled given x y p q in (edge-told-back a b (same .0), same .1, same .2)
 
-  pub node-settled : (given x y : Lent (Key × Unit {0})) (a b : NodeRead) → nodePromise κs given a x → nodePromise κs given b y → a ≡ b
-  node-settled given x y a b p q = node-told-back a b p q
+  pub node-settled : (given x y : Lent (Key × Unit {0})) (a b : NodeRead) → NodePromise κs given a x → NodePromise κs given b y
+      → (a ≡ b) × SameWords x y × SameWords x given
+  node-settled given x y a b p q = let same = asked-settled given x y p q in (node-told-back a b (same .0), same .1, same .2)
 
-  pub room-settled : (given x y : Lent (Unit {0})) (a b : RoomRead) → roomPromise κs given a x → roomPromise κs given b y → a ≡ b
-  room-settled given x y a b p q = room-told-back a b p q
+  pub room-settled : (given x y : Lent (Unit {0})) (a b : RoomRead) → RoomPromise κs given a x → RoomPromise κs given b y
+      → (a ≡ b) × SameWords x y × SameWords x given
+  room-settled given x y a b p q = let same = asked-settled given x y p q in (room-told-back a b (same .0), same .1, same .2)

@@ -5,6 +5,7 @@ ghost use Rattle.rules.specs.Readouts.{bandReadOf};
 ghost use Rattle.rules.specs.BoxSaysNo.{saying};
 ghost use Rattle.hall.specs.Says.{refusalSays};
 ghost use Rattle.store.specs.Memory.{lent};
+ghost use Rattle.store.specs.Came.{asked, telling};
 ghost use Rattle.asking.specs.BandCall.{bandIn};
 ghost use Rattle.asking.specs.Says.{bandReadSays};
 use hall::Answer;
@@ -15,7 +16,10 @@ use hall::Refusal;
 
 // The band of a number.
 pub fn band(bands: &[u32], nodes: &[u32], marks: &[u32], number: u32) -> BandRead
-    ensures { λ r. ⌜ bandReadSays r ≡ bandIn (lent (now (bands .entry)) (now (nodes .entry)) (now (marks .entry))) number ⌝ }
+    ensures { λ r. ⌜
+        asked (bandReadSays r) (now (bands .exit)) (now (nodes .exit)) (now (marks .exit))
+        ≡ telling (λ m. bandIn m number) (lent (now (bands .entry)) (now (nodes .entry)) (now (marks .entry)))
+        ⌝ }
 {
     if !store::sizes_right(bands, nodes, marks) {
         return refused(Refusal::MemoryUnfit);

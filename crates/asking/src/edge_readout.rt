@@ -4,6 +4,7 @@ ghost use Prim.Native.Nat.{_<_, _^_};
 ghost use Rattle.rules.specs.BoxSaysNo.{saying, noEdgeRead};
 ghost use Rattle.hall.specs.Says.{refusalSays, keySaid, nextSays};
 ghost use Rattle.store.specs.Memory.{lent};
+ghost use Rattle.store.specs.Came.{asked, telling};
 ghost use Rattle.asking.specs.EdgeCall.{keyAt, edgeIn};
 ghost use Rattle.asking.specs.Says.{edgeReadSays};
 use crate::judging::judge_key;
@@ -15,7 +16,10 @@ use hall::Refusal;
 
 // The edge out of the node at a key in a lane.
 pub fn edge(bands: &[u32], nodes: &[u32], marks: &[u32], key: Key, lane: u32) -> EdgeRead
-    ensures { λ r. ⌜ edgeReadSays r ≡ edgeIn (lent (now (bands .entry)) (now (nodes .entry)) (now (marks .entry))) (key .0) lane ⌝ }
+    ensures { λ r. ⌜
+        asked (edgeReadSays r) (now (bands .exit)) (now (nodes .exit)) (now (marks .exit))
+        ≡ telling (λ m. edgeIn m (key .0) lane) (lent (now (bands .entry)) (now (nodes .entry)) (now (marks .entry)))
+        ⌝ }
 {
     match judge_key(bands, nodes, marks, key) {
         Answer::Refused(refusal) => refused(refusal),

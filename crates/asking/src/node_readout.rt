@@ -3,6 +3,7 @@ ghost use mathlib.Core.Path.{_≡_};
 ghost use Rattle.rules.specs.BoxSaysNo.{saying, noNodeRead};
 ghost use Rattle.hall.specs.Says.{refusalSays};
 ghost use Rattle.store.specs.Memory.{lent};
+ghost use Rattle.store.specs.Came.{asked, telling};
 ghost use Rattle.asking.specs.NodeCall.{nodeIn};
 ghost use Rattle.asking.specs.Says.{nodeReadSays};
 use crate::judging::judge_key;
@@ -13,7 +14,10 @@ use hall::Refusal;
 
 // The node at a key.
 pub fn node(bands: &[u32], nodes: &[u32], marks: &[u32], key: Key) -> NodeRead
-    ensures { λ r. ⌜ nodeReadSays r ≡ nodeIn (lent (now (bands .entry)) (now (nodes .entry)) (now (marks .entry))) (key .0) ⌝ }
+    ensures { λ r. ⌜
+        asked (nodeReadSays r) (now (bands .exit)) (now (nodes .exit)) (now (marks .exit))
+        ≡ telling (λ m. nodeIn m (key .0)) (lent (now (bands .entry)) (now (nodes .entry)) (now (marks .entry)))
+        ⌝ }
 {
     match judge_key(bands, nodes, marks, key) {
         Answer::Refused(refusal) => refused(refusal),

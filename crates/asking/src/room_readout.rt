@@ -1,6 +1,7 @@
 // The room readout.
 ghost use mathlib.Core.Path.{_≡_};
 ghost use Rattle.store.specs.Memory.{lent};
+ghost use Rattle.store.specs.Came.{asked, telling};
 ghost use Rattle.asking.specs.RoomCall.{roomReadIn};
 ghost use Rattle.asking.specs.Says.{roomReadSays};
 use hall::Answer;
@@ -9,7 +10,10 @@ use hall::RoomRead;
 
 // The room used.
 pub fn room(bands: &[u32], nodes: &[u32], marks: &[u32]) -> RoomRead
-    ensures { λ r. ⌜ roomReadSays r ≡ roomReadIn (lent (now (bands .entry)) (now (nodes .entry)) (now (marks .entry))) ⌝ }
+    ensures { λ r. ⌜
+        asked (roomReadSays r) (now (bands .exit)) (now (nodes .exit)) (now (marks .exit))
+        ≡ telling roomReadIn (lent (now (bands .entry)) (now (nodes .entry)) (now (marks .entry)))
+        ⌝ }
 {
     if !store::sizes_right(bands, nodes, marks) {
         return RoomRead {

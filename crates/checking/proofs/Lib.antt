@@ -8,8 +8,9 @@
 --   NodesLaid      the node words, by node places, links and fences
 --   TestedIsSound  all tests pass exactly when memory is sound
 -- Of the call:
---   CheckExact     what its answer means
---   Settled        no second answer meets its promise
+--   CheckExact     what its answer means, and that memory is as it was
+--   Settled        no second outcome meets its promise
+--   Promise        that promise, by name
 -- As the code goes through them: EndSteps, LinkSteps, MarkSteps, and TestsInOrder of all.
 pub mod FreeWords
 pub mod BandPlaces
@@ -19,6 +20,7 @@ pub mod LinksRight
 pub mod MarkPlaces
 pub mod NodesLaid
 pub mod TestedIsSound
+pub mod Promise
 pub mod CheckExact
 pub mod Settled
 pub mod EndSteps

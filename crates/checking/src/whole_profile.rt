@@ -2,6 +2,7 @@
 // before it have passed. That the steps together are `sound` is proved (proofs/TestedIsSound.antt).
 ghost use mathlib.Core.Path.{_≡_};
 ghost use Rattle.store.specs.Memory.{lent};
+ghost use Rattle.store.specs.Came.{asked, telling};
 ghost use Rattle.store.specs.Sound.{sound};
 use crate::band_places;
 use crate::ends;
@@ -11,7 +12,10 @@ use crate::node_places;
 
 // Yes exactly when the memory is sound. Memory of wrong sizes is not.
 pub fn check(bands: &[u32], nodes: &[u32], marks: &[u32]) -> bool
-    ensures { λ r. ⌜ r ≡ sound (lent (now (bands .entry)) (now (nodes .entry)) (now (marks .entry))) ⌝ }
+    ensures { λ r. ⌜
+        asked r (now (bands .exit)) (now (nodes .exit)) (now (marks .exit))
+        ≡ telling sound (lent (now (bands .entry)) (now (nodes .entry)) (now (marks .entry)))
+        ⌝ }
 {
     if !store::sizes_right(bands, nodes, marks) {
         return false;

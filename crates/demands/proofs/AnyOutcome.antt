@@ -22,11 +22,11 @@ use Rattle.hall.specs.declared.bands.Band.{Band as GivenBand}
 use Rattle.hall.specs.Says.{answerSays}
 use Rattle.hall.specs.SaidBand.{said}
 use Rattle.store.specs.Sizes.{sizesRight}
-use Rattle.store.specs.Memory.{Memory, lent, lengthsIn, roomIn}
+use Rattle.store.specs.Memory.{Memory, lengthsIn, roomIn}
 use Rattle.store.specs.SaidProfile.{saidProfile}
 use Rattle.store.specs.Sound.{sound}
 use Rattle.store.specs.ChangeIn.{changeIn}
-use Rattle.store.proofs.LentWords.{Lent}
+use Rattle.store.proofs.LentWords.{Lent, alsoGiven, lentMemory}
 use Rattle.store.proofs.ChangeIn.{LeavesSound, change-leaves}
 use Rattle.asking.specs.BandCall.{bandIn}
 use Rattle.asking.specs.NodeCall.{nodeIn}
@@ -50,19 +50,9 @@ use Rattle.demands.proofs.LevelStays.{SameLevels, StandsWith, insert-le
 use Rattle.demands.proofs.Alone.{OthersStabbedAlike, insert-alone, remove-alone}
 use Rattle.demands.proofs.Local.{OtherNumbersKept, insert-local, remove-local}
 
--- ---- what a call was lent and given, as its promise speaks of it
-
--- the memory that the three slices are
-abbrev pub memoryIn : {A : Type 0} → Lent A → Memory
-memoryIn x = lent (x .0 .now) (x .1 .0 .now) (x .1 .1 .0 .now)
-
--- and what was given besides
-abbrev pub besides : {A : Type 0} → Lent A → A
-besides x = x .1 .1 .1
-
 -- what came of it: the answer's number, and the memory that is left
 abbrev pub outcome : {A : Type 0} → Answer → Lent A → Change Memory
-outcome a x = leaving (answerSays a) (memoryIn x)
+outcome a x = leaving (answerSays a) (lentMemory x)
 
 -- ---- making an empty profile
 
@@ -89,8 +79,8 @@ empty-outcome m =
     }
 
 pub any-empty-outcome : (κs : Lfts 3) (given left : Lent (Unit {0})) (a : Answer) → emptyPromise κs given a left
-    → EmptyOutcome (memoryIn given) (outcome a left)
-any-empty-outcome κs given left a meets = subst (EmptyOutcome (memoryIn given)) (sym meets) (empty-outcome (memoryIn given))
+    → EmptyOutcome (lentMemory given) (outcome a left)
+any-empty-outcome κs given left a meets = subst (EmptyOutcome (lentMemory given)) (sym meets) (empty-outcome (lentMemory given))
 
 -- ---- inserting a band
 
@@ -135,9 +125,9 @@ insert-outcome m b lo hi =
     }
 
 pub any-insert-outcome : (κs : Lfts 3) (given left : Lent (GivenBand × (ℕ × (ℕ × Unit {0})))) (a : Answer) → insertPromise κs given a left
-    → InsertOutcome (memoryIn given) (said (besides given .0)) (besides given .1 .0) (besides given .1 .1 .0) (outcome a left)
+    → InsertOutcome (lentMemory given) (said (alsoGiven given .0)) (alsoGiven given .1 .0) (alsoGiven given .1 .1 .0) (outcome a left)
 any-insert-outcome κs given left a meets =
-    subst (InsertOutcome (memoryIn given) (said (besides given .0)) (besides given .1 .0) (besides given .1 .1 .0)) (sym meets) (insert-outcome _ _ _ _)
+    subst (InsertOutcome (lentMemory given) (said (alsoGiven given .0)) (alsoGiven given .1 .0) (alsoGiven given .1 .1 .0)) (sym meets) (insert-outcome _ _ _ _)
 
 -- ---- removing a band
 
@@ -178,6 +168,6 @@ remove-outcome m number scope =
     }
 
 pub any-remove-outcome : (κs : Lfts 3) (given left : Lent (ℕ × (ℕ × Unit {0}))) (a : Answer) → removePromise κs given a left
-    → RemoveOutcome (memoryIn given) (besides given .0) (besides given .1 .0) (outcome a left)
+    → RemoveOutcome (lentMemory given) (alsoGiven given .0) (alsoGiven given .1 .0) (outcome a left)
 any-remove-outcome κs given left a meets =
-    subst (RemoveOutcome (memoryIn given) (besides given .0) (besides given .1 .0)) (sym meets) (remove-outcome _ _ _)
+    subst (RemoveOutcome (lentMemory given) (alsoGiven given .0) (alsoGiven given .1 .0)) (sym meets) (remove-outcome _ _ _)

@@ -1,4 +1,5 @@
 -- What is demanded of the calls, as theorems, on any memory:
+--   AsPromised        the number and the memory that a call comes to which only asks are those that its promise says
 --   RefusedExactly    a call answers the first line of its own that applies, and 0 exactly when none does
 --   RefusedUnchanged  refused, a change leaves all memory as it was
 --   Lives             an accepted insert makes the band live as given, a remove ends it, and no other band changes
@@ -21,6 +22,7 @@
 --   EveryCall         each call is that call by the rules: it asks, or is a change; so what is so of every change, and of memory left as it was, is so of all
 --   FromEmpty         on memory that soundly says a profile each call answers what the rules answer on it
 --   TwoBands          by the rules alone: two bands of one open stretch go in where there is room for two nodes and two marks, and not in less
+pub mod AsPromised
 pub mod ChangesOnly
 pub mod EveryCall
 pub mod FromEmpty

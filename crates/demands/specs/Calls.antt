@@ -1,6 +1,6 @@
 -- What each call comes to on a memory, by the call's own definition: the number that it answers, 0 where it is not refused, and the memory that stands
--- after it; and the memory after a list of calls. The check says yes or no and is never refused. It, stabs and readouts are lent the memory to read only:
--- what stood before them stands after them.
+-- after it; and the memory after a list of calls. The check says yes or no and is never refused. What stood before it, before stabs and before readouts
+-- stands after them, as their promises say (proofs/AsPromised.antt).
 -- Assumes nothing.
 use Prim.Native.Nat.{ℕ}
 use mathlib.Core.List.{List, [], _∷_}

@@ -20,6 +20,7 @@
 --   JudgedFirst    a change that lines judge before it is made ready: what those give stands, or 11 and 12 decide
 --   ToldBack       what the outcome of a call that changes says tells it back
 --   LentWords      what a call that is lent memory is given, as promises speak of it
+--   OnlyAsked      what meets the promise of a call that only asks tells what is due, and leaves the words that it was lent
 --   MemoryExample  the example of docs/MEMORY.md
 --   LinkMarks      the marks of a link's slot are those of the edge there
 --   NextInLane     the next node of a lane, as the links and as the paper's search know it
@@ -51,6 +52,7 @@ pub mod SoundFirst
 pub mod JudgedFirst
 pub mod ToldBack
 pub mod LentWords
+pub mod OnlyAsked
 pub mod LinkMarks
 pub mod NextInLane
 pub mod LinksLead

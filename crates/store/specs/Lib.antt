@@ -1,5 +1,5 @@
 -- The lent memory as words: lengths and rooms, where each field stands, what words say, the one memory of a profile, when memory is sound, what a
--- change of it comes to, and what the outcome of a call that changes says.
+-- change of it comes to, and what the outcome of a call says that changes or only asks.
 pub mod Words
 pub mod Sizes
 pub mod Memory

@@ -16,7 +16,7 @@ check-requires : tie.Need-check-requires
 check-requires c κs = search needs
 
 returns : tie.Need-returns
-returns c = insert-judged-by-1 _ _ _ _ (sym (c .before .check .ensures) ∙ not-true _ (c .if1 .taken))
+returns c = insert-judged-by-1 _ _ _ _ (sym (ap (λ o. o .told) (c .before .check .ensures)) ∙ not-true _ (c .if1 .taken))
 
 -- past the first test memory is sound
 is-sound : (c : tie.Else1)
@@ -26,7 +26,7 @@ is-sound : (c : tie.Else1)
     (c .before .before .before .before .before .args .nodes .now)
     (c .before .before .before .before .before .args .marks .now))
     ≡ true
-is-sound c = sym (c .before .check .ensures) ∙ not-false _ (c .if1 .left)
+is-sound c = sym (ap (λ o. o .told) (c .before .check .ensures)) ∙ not-false _ (c .if1 .left)
 
 fault-with-requires : tie.Need-fault-with-requires
 fault-with-requires c κs = search needs

@@ -1,7 +1,7 @@
 -- `removing::judge` meets its contract: at each `return` the tests that led there say which of 1, 2, 3, 9 and 10 is the first that
 -- applies.
 -- Assumes nothing.
-use mathlib.Core.Path.{_≡_, sym, _∙_}
+use mathlib.Core.Path.{_≡_, sym, ap, _∙_}
 use mathlib.Core.Bool.{true}
 use native.Mathlib.Omega.{arith}
 use borrow.Author.Needs.{needs}
@@ -16,7 +16,7 @@ check-requires : tie.Need-check-requires
 check-requires c κs = search needs
 
 returns : tie.Need-returns
-returns c = remove-judged-by-1 _ _ _ (sym (c .before .check .ensures) ∙ not-true _ (c .if1 .taken))
+returns c = remove-judged-by-1 _ _ _ (sym (ap (λ o. o .told) (c .before .check .ensures)) ∙ not-true _ (c .if1 .taken))
 
 -- past the first test memory is sound
 is-sound : (c : tie.Else1)
@@ -26,7 +26,7 @@ is-sound : (c : tie.Else1)
     (c .before .before .before .before .before .args .nodes .now)
     (c .before .before .before .before .before .args .marks .now))
     ≡ true
-is-sound c = sym (c .before .check .ensures) ∙ not-false _ (c .if1 .left)
+is-sound c = sym (ap (λ o. o .told) (c .before .check .ensures)) ∙ not-false _ (c .if1 .left)
 
 returns-2 : tie.Need-returns-2
 returns-2 c = remove-judged-by-2 _ _ _ (is-sound (c .before)) (c .if2 .taken)

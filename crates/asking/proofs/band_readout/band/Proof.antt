@@ -10,6 +10,7 @@ use Rattle.rules.specs.Readouts.{bandReadOf}
 use Rattle.rules.specs.BoxSaysNo.{saying}
 use Rattle.store.specs.Sizes.{sizesRight}
 use Rattle.store.specs.Memory.{lent, lengthsIn}
+use Rattle.store.proofs.OnlyAsked.{left-as-it-was}
 use Rattle.asking.proofs.CallLines.{band-by-1, band-by-3, band-by-9, band-read}
 use Rattle.asking.proofs.band_readout.band.Statement.{statement}
 use Rattle.asking.proofs.band_readout.band.Tie as tie
@@ -22,7 +23,8 @@ refused-requires c κs = search needs
 
 returns : tie.Need-returns
 returns c =
-    c .refused .ensures ∙ band-by-1 _ (sym (c .before .before .sizes-right .ensures) ∙ not-true _ (c .before .if1 .taken)) _
+    left-as-it-was
+    (c .refused .ensures ∙ band-by-1 _ (sym (c .before .before .sizes-right .ensures) ∙ not-true _ (c .before .if1 .taken)) _)
 
 -- past the first test the sizes are right
 right : (c : tie.Else1)
@@ -40,7 +42,8 @@ refused-requires-2 c κs = search needs
 
 returns-2 : tie.Need-returns-2
 returns-2 c =
-    c .refused2 .ensures ∙ band-by-3 _ (right (c .before .before)) _ (omega arith)
+    left-as-it-was
+    (c .refused2 .ensures ∙ band-by-3 _ (right (c .before .before)) _ (omega arith))
 
 is-live-requires : tie.Need-is-live-requires
 is-live-requires c κs = search needs
@@ -50,17 +53,19 @@ refused-requires-3 c κs = search needs
 
 returns-3 : tie.Need-returns-3
 returns-3 c =
-    c .refused3 .ensures
-    ∙ band-by-9 _ (right (c .before .before .before .before)) _ (omega arith) (sym (c .before .before .is-live .ensures) ∙ not-true _ (c .before .if3 .taken))
+    left-as-it-was
+    (c .refused3 .ensures
+    ∙ band-by-9 _ (right (c .before .before .before .before)) _ (omega arith) (sym (c .before .before .is-live .ensures) ∙ not-true _ (c .before .if3 .taken)))
 
 band-at-requires : tie.Need-band-at-requires
 band-at-requires c κs = search needs
 
 returns-4 : tie.Need-returns-4
 returns-4 c =
-    ap (λ b. saying 0 (bandReadOf (some b))) (c .before .before .band-at .ensures)
+    left-as-it-was
+    (ap (λ b. saying 0 (bandReadOf (some b))) (c .before .before .band-at .ensures)
     ∙ band-read _ (right (c .before .before .before .before .before .before)) _ (omega arith)
-    (sym (c .before .before .before .before .is-live .ensures) ∙ not-false _ (c .before .before .before .if3 .left))
+    (sym (c .before .before .before .before .is-live .ensures) ∙ not-false _ (c .before .before .before .if3 .left)))
 
 pub band-spec : {M : Type 1} → statement M
 band-spec =

@@ -19,6 +19,7 @@ use Rattle.hall.specs.Says.{answerSays}
 use Rattle.hall.proofs.OneToOne.{no-refusal-says-0}
 use Rattle.store.specs.Places.{nodeField, linkField}
 use Rattle.store.specs.SaidMarks.{saidMarks}
+use Rattle.store.proofs.OnlyAsked.{left-as-it-was}
 use Rattle.search.specs.Descent.{nextOf}
 use Rattle.asking.specs.EdgeCall.{keyAt, edgeAt}
 use Rattle.asking.proofs.CallLines.{edge-refused, marks-fit, edge-by-13, edge-by-13-lane, edge-read}
@@ -61,7 +62,8 @@ refused-requires-2 c κs = search needs
 returns : tie.Need-returns
 returns c =
     let none = sym (c .before .before .place-of .ensures .0) ∙ c .before .if1 .taken in
-    c .refused2 .ensures ∙ edge-by-13 _ _ (sym (ap answerSays (c .before .before .before .enum-told .given .1)) ∙ c .before .before .before .before .before .judge-key .ensures) none _
+    left-as-it-was
+    (c .refused2 .ensures ∙ edge-by-13 _ _ (sym (ap answerSays (c .before .before .before .enum-told .given .1)) ∙ c .before .before .before .before .before .judge-key .ensures) none _)
 
 node-word-requires : tie.Need-node-word-requires
 node-word-requires c κs = search needs
@@ -74,8 +76,9 @@ returns-2 c =
     let lane = c .before .before .before .before .before .before .before .before .before .before .before .args .lane in
     let no-lane = sym (lane-test lane _ _ (c .before .before .node-word .ensures .0)) ∙ not-true _ (c .before .if2 .taken) in
     let found = c .before .before .before in
-    c .refused3 .ensures
-    ∙ edge-by-13-lane _ _ (sym (ap answerSays (c .before .before .before .before .before .enum-told .given .1)) ∙ c .before .before .before .before .before .before .before .judge-key .ensures) _ (found .before .place-of .ensures .0) (found .if1 .left) _ no-lane
+    left-as-it-was
+    (c .refused3 .ensures
+    ∙ edge-by-13-lane _ _ (sym (ap answerSays (c .before .before .before .before .before .enum-told .given .1)) ∙ c .before .before .before .before .before .before .before .judge-key .ensures) _ (found .before .place-of .ensures .0) (found .if1 .left) _ no-lane)
 
 add-marked : tie.Need-add-marked
 add-marked c = search needs
@@ -99,7 +102,8 @@ key-at-requires c κs = search needs
 returns-3 : tie.Need-returns-3
 returns-3 c =
     let stays = sym (ap answerSays (c .before .before .refusal .given .1)) ∙ c .before .before .before .before .judge-key .ensures in
-    c .refused .ensures ∙ edge-refused _ _ _ stays (no-refusal-says-0 (c .before .before .refusal .given .0 .0)) _
+    left-as-it-was
+    (c .refused .ensures ∙ edge-refused _ _ _ stays (no-refusal-says-0 (c .before .before .refusal .given .0 .0)) _)
 
 returns-4 : tie.Need-returns-4
 returns-4 c =
@@ -107,8 +111,9 @@ returns-4 c =
     let found = c .before .before .before .before .before .before in
     let has-lane = sym (lane-test (start .args .lane) _ _ (c .before .before .before .before .before .node-word .ensures .0)) ∙ not-false _ (c .before .before .before .before .if2 .left) in
     let flags = ap (λ t. t .flags) (c .before .before .before .marked .ensures) in
-    ap (saying 0) (words-read (start .args .nodes .now) (start .args .marks .now) _ (start .args .lane) _ _ _ (c .before .node-word2 .ensures .0) (c .key-at .ensures) flags)
-    ∙ edge-read _ _ (sym (ap answerSays (c .before .before .before .before .before .before .before .before .enum-told .given .1)) ∙ c .before .before .before .before .before .before .before .before .before .before .judge-key .ensures) _ (found .before .place-of .ensures .0) (found .if1 .left) _ has-lane
+    left-as-it-was
+    (ap (saying 0) (words-read (start .args .nodes .now) (start .args .marks .now) _ (start .args .lane) _ _ _ (c .before .node-word2 .ensures .0) (c .key-at .ensures) flags)
+    ∙ edge-read _ _ (sym (ap answerSays (c .before .before .before .before .before .before .before .before .enum-told .given .1)) ∙ c .before .before .before .before .before .before .before .before .before .before .judge-key .ensures) _ (found .before .place-of .ensures .0) (found .if1 .left) _ has-lane)
 
 pub edge-spec : {M : Type 1} → statement M
 edge-spec =

@@ -6,6 +6,7 @@ use borrow.Author.Needs.{needs}
 use Rattle.rules.specs.BoxSaysNo.{saying}
 use Rattle.hall.specs.Says.{answerSays}
 use Rattle.hall.proofs.OneToOne.{no-refusal-says-0}
+use Rattle.store.proofs.OnlyAsked.{left-as-it-was}
 use Rattle.asking.specs.NodeCall.{nodeAt}
 use Rattle.asking.proofs.CallLines.{node-refused, marks-fit, node-by-13, node-read}
 use Rattle.asking.proofs.node_readout.node.Statement.{statement}
@@ -32,7 +33,8 @@ refused-requires-2 c κs = search needs
 returns : tie.Need-returns
 returns c =
     let none = sym (c .before .before .place-of .ensures .0) ∙ c .before .if1 .taken in
-    c .refused2 .ensures ∙ node-by-13 _ _ (sym (ap answerSays (c .before .before .before .enum-told .given .1)) ∙ c .before .before .before .before .before .judge-key .ensures) none
+    left-as-it-was
+    (c .refused2 .ensures ∙ node-by-13 _ _ (sym (ap answerSays (c .before .before .before .enum-told .given .1)) ∙ c .before .before .before .before .before .judge-key .ensures) none)
 
 marked-requires : tie.Need-marked-requires
 marked-requires c κs =
@@ -47,7 +49,8 @@ cast-t15 c = search needs
 returns-2 : tie.Need-returns-2
 returns-2 c =
     let stays = sym (ap answerSays (c .before .before .refusal .given .1)) ∙ c .before .before .before .before .judge-key .ensures in
-    c .refused .ensures ∙ node-refused _ _ _ stays (no-refusal-says-0 (c .before .before .refusal .given .0 .0))
+    left-as-it-was
+    (c .refused .ensures ∙ node-refused _ _ _ stays (no-refusal-says-0 (c .before .before .refusal .given .0 .0)))
 
 returns-3 : tie.Need-returns-3
 unfolding nodeAt
@@ -55,8 +58,9 @@ returns-3 c =
     let level = c .node-word .ensures .0 in
     let flags = ap (λ t. t .flags) (c .before .before .marked .ensures) in
     let found = c .before .before .before in
-    (λ i. saying 0 (record { level = level i; flags = flags i }))
-    ∙ node-read _ _ (sym (ap answerSays (c .before .before .before .before .before .enum-told .given .1)) ∙ c .before .before .before .before .before .before .before .judge-key .ensures) _ (found .before .place-of .ensures .0) (found .if1 .left)
+    left-as-it-was
+    ((λ i. saying 0 (record { level = level i; flags = flags i }))
+    ∙ node-read _ _ (sym (ap answerSays (c .before .before .before .before .before .enum-told .given .1)) ∙ c .before .before .before .before .before .before .before .judge-key .ensures) _ (found .before .place-of .ensures .0) (found .if1 .left))
 
 pub node-spec : {M : Type 1} → statement M
 node-spec =

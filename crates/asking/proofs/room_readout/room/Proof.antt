@@ -4,6 +4,7 @@ use mathlib.Core.Path.{sym, _∙_}
 use borrow.Author.Needs.{needs}
 use borrow.Author.Tests.{not-true, not-false}
 use Rattle.rules.specs.BoxSaysNo.{saying}
+use Rattle.store.proofs.OnlyAsked.{left-as-it-was}
 use Rattle.asking.specs.RoomCall.{saidUse}
 use Rattle.asking.proofs.CallLines.{room-by-1, room-read}
 use Rattle.asking.proofs.room_readout.room.Statement.{statement}
@@ -13,7 +14,9 @@ sizes-right-requires : tie.Need-sizes-right-requires
 sizes-right-requires c κs = search needs
 
 returns : tie.Need-returns
-returns c = room-by-1 _ (sym (c .before .sizes-right .ensures) ∙ not-true _ (c .if1 .taken))
+returns c =
+    left-as-it-was
+    (room-by-1 _ (sym (c .before .sizes-right .ensures) ∙ not-true _ (c .if1 .taken)))
 
 node-word-requires : tie.Need-node-word-requires
 node-word-requires c κs = search needs
@@ -32,8 +35,9 @@ unfolding saidUse
 returns-2 c =
     let nodes = c .before .node-word .ensures .0 in
     let marks = c .node-word2 .ensures .0 in
-    (λ i. saying 0 (record { nodes = nodes i; marks = marks i }))
-    ∙ room-read _ (sym (c .before .before .before .sizes-right .ensures) ∙ not-false _ (c .before .before .if1 .left))
+    left-as-it-was
+    ((λ i. saying 0 (record { nodes = nodes i; marks = marks i }))
+    ∙ room-read _ (sym (c .before .before .before .sizes-right .ensures) ∙ not-false _ (c .before .before .if1 .left)))
 
 pub room-spec : {M : Type 1} → statement M
 room-spec =

@@ -9,6 +9,7 @@ use Rattle.rules.specs.BoxSaysNo.{saying}
 use Rattle.rules.proofs.Flags.{ones-of-flags}
 use Rattle.hall.specs.Says.{answerSays}
 use Rattle.hall.proofs.OneToOne.{no-refusal-says-0}
+use Rattle.store.proofs.OnlyAsked.{left-as-it-was}
 use Rattle.search.specs.Descent.{Descent}
 use Rattle.search.specs.Found.{foundOf}
 use Rattle.search.specs.declared.descent.Found.{Found}
@@ -45,12 +46,14 @@ count-requires c κs = search needs
 returns : tie.Need-returns
 returns c =
     let stays = sym (ap answerSays (c .before .before .refusal .given .1)) ∙ c .before .before .before .before .judge-key .ensures in
-    c .refused .ensures ∙ stab-refused _ _ _ stays (no-refusal-says-0 (c .before .before .refusal .given .0 .0))
+    left-as-it-was
+    (c .refused .ensures ∙ stab-refused _ _ _ stays (no-refusal-says-0 (c .before .before .refusal .given .0 .0)))
 
 returns-2 : tie.Need-returns-2
 returns-2 c =
-    ap (saying 0) (found-counted _ _ _ (c .before .before .before .before .search .ensures) (c .count .ensures .sum))
-    ∙ stabbed _ _ (sym (ap answerSays (c .before .before .before .before .before .enum-told .given .1)) ∙ c .before .before .before .before .before .before .before .judge-key .ensures)
+    left-as-it-was
+    (ap (saying 0) (found-counted _ _ _ (c .before .before .before .before .search .ensures) (c .count .ensures .sum))
+    ∙ stabbed _ _ (sym (ap answerSays (c .before .before .before .before .before .enum-told .given .1)) ∙ c .before .before .before .before .before .before .before .judge-key .ensures))
 
 pub stab-spec : {M : Type 1} → statement M
 stab-spec =

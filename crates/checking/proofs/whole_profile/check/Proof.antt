@@ -13,13 +13,14 @@ use Rattle.checking.proofs.TestedIsSound.{tested-is-sound}
 use Rattle.checking.proofs.whole_profile.check.Statement.{statement}
 use Rattle.checking.proofs.whole_profile.check.Tie as tie
 use Rattle.store.specs.Places.{inUse}
+use Rattle.store.proofs.OnlyAsked.{left-as-it-was}
 
 sizes-right-requires : tie.Need-sizes-right-requires
 sizes-right-requires c κs = search needs
 
 returns : tie.Need-returns
 unfolding tested
-returns c = decided (c .before .sizes-right .ensures) _ (c .if1 .taken) ∙ tested-is-sound _
+returns c = left-as-it-was (decided (c .before .sizes-right .ensures) _ (c .if1 .taken) ∙ tested-is-sound _)
 
 band-places-right-requires : tie.Need-band-places-right-requires
 band-places-right-requires c κs = search needs
@@ -31,9 +32,10 @@ returns-2 : tie.Need-returns-2
 unfolding tested
 returns-2 c =
     let sizes = c .before .before .before in
-    left-to-next (sizes .before .sizes-right .ensures) _ (sizes .if1 .left)
+    left-as-it-was
+    (left-to-next (sizes .before .sizes-right .ensures) _ (sizes .if1 .left)
     (decided (both (c .before .before .band-places-right .ensures) (c .before .node-places-right .ensures)) _ (c .if2 .taken))
-    ∙ tested-is-sound _
+    ∙ tested-is-sound _)
 
 -- once sizes and places have passed, nodes and marks are within the most that there are words for
 within : (c : tie.Else2)
@@ -57,10 +59,11 @@ unfolding tested
 returns-3 c =
     let places = c .before .before .before in
     let sizes = places .before .before .before in
-    left-to-next (sizes .before .sizes-right .ensures) _ (sizes .if1 .left)
+    left-as-it-was
+    (left-to-next (sizes .before .sizes-right .ensures) _ (sizes .if1 .left)
     (left-to-next (both (places .before .before .band-places-right .ensures) (places .before .node-places-right .ensures)) _ (places .if2 .left)
     (decided (both (c .before .before .ends-match .ensures) (c .before .links-right .ensures)) _ (c .if3 .taken)))
-    ∙ tested-is-sound _
+    ∙ tested-is-sound _)
 
 marks-right-requires : tie.Need-marks-right-requires
 marks-right-requires c κs = within (c .before .before .before)
@@ -71,11 +74,12 @@ returns-4 c =
     let ends-and-links = c .before in
     let places = ends-and-links .before .before .before in
     let sizes = places .before .before .before in
-    left-to-next (sizes .before .sizes-right .ensures) _ (sizes .if1 .left)
+    left-as-it-was
+    (left-to-next (sizes .before .sizes-right .ensures) _ (sizes .if1 .left)
     (left-to-next (both (places .before .before .band-places-right .ensures) (places .before .node-places-right .ensures)) _ (places .if2 .left)
     (left-to-next (both (ends-and-links .before .before .ends-match .ensures) (ends-and-links .before .links-right .ensures)) _ (ends-and-links .if3 .left)
     (c .marks-right .ensures)))
-    ∙ tested-is-sound _
+    ∙ tested-is-sound _)
 
 pub check-spec : {M : Type 1} → statement M
 check-spec =
