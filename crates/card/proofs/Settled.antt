@@ -1,5 +1,5 @@
--- No second outcome meets a promise of the card: of two that meet what the `ensures` says, whatever was lent and given, the answers are equal and,
--- where words may change, the words. Stated of the promise itself: one that said less would not settle the outcome.
+-- No second outcome meets a promise of the card: of two that meet what the `ensures` says, whatever was lent and given, the answers are equal and
+-- so is what was lent, as it stands after it; what is lent to be read is as it was. Stated of the promise itself: one that said less would not settle the outcome.
 -- Assumes nothing.
 use Prim.{Unit}
 use Prim.Native.Nat.{ℕ}
@@ -39,18 +39,19 @@ scan-told-back a b e f =
 abbrev Given : Type 0
 Given = RefT (List Band) × (Key × Unit {0})
 
--- what is promised of an answer ..
-abbrev pub ScanPromise : Given → Scan → Type 0
-ScanPromise given r = scanSays r ≡ scanOf (bandsOf (now (given .0))) (given .1 .0 .0)
+-- what is promised of an answer, and of the bands as they stand after it ..
+abbrev pub ScanPromise : Given → Scan → List Band → Type 0
+ScanPromise given r after = (scanSays r ≡ scanOf (bandsOf (now (given .0))) (given .1 .0 .0)) × (after ≡ now (given .0))
 
 -- .. is what the `ensures` says, no less and no more: the borrow checker reads no such clause, so it is read here
 module _ {M : Type 1} (𝓤 : URA M) (H : Heap 𝓤) (A : Atoms 𝓤) (mem : Memory → SProp 𝓤) (run : Routine → Fun 𝓤) where
   pub promise-is-ensured : (κs : Lfts 1) (given : Given) (r : Scan) (end : AtExit scan.ended κs)
-      → scan.clauses 𝓤 H A mem run κs given .ensures tt r end ≡ fact 𝓤 (ScanPromise given r)
+      → scan.clauses 𝓤 H A mem run κs given .ensures tt r end ≡ fact 𝓤 (ScanPromise given r (now (end .0)))
   promise-is-ensured κs given r end = refl
 
-pub scan-settled : (given : Given) (a b : Scan) → ScanPromise given a → ScanPromise given b → a ≡ b
-scan-settled given a b p q = scan-told-back a b p q
+pub scan-settled : (given : Given) (a b : Scan) (x y : List Band) → ScanPromise given a x → ScanPromise given b y
+    → (a ≡ b) × (x ≡ y) × (x ≡ now (given .0))
+scan-settled given a b x y p q = (scan-told-back a b (p .0) (q .0), p .1 ∙ sym (q .1), p .1)
 
 -- ---- over words
 
@@ -58,8 +59,9 @@ scan-settled given a b p q = scan-told-back a b p q
 abbrev WordsGiven : Type 0
 WordsGiven = RefT (List ℕ) × (Key × Unit {0})
 
-pub scan-words-settled : (κs : Lfts 1) (given x y : WordsGiven) (a b : Scan) → scanWordsPromise κs given a x → scanWordsPromise κs given b y → a ≡ b
-scan-words-settled κs given x y a b p q = scan-told-back a b p q
+pub scan-words-settled : (κs : Lfts 1) (given x y : WordsGiven) (a b : Scan) → scanWordsPromise κs given a x → scanWordsPromise κs given b y
+    → (a ≡ b) × (now (x .0) ≡ now (y .0)) × (now (x .0) ≡ now (given .0))
+scan-words-settled κs given x y a b p q = (scan-told-back a b (p .0) (q .0), p .1 ∙ sym (q .1), p .1)
 
 -- the words, the index and the band
 abbrev Laying : Type 0

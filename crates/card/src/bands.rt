@@ -11,7 +11,10 @@ use hall::Key;
 
 // Scans the records for a key: the first thing wrong and its place, or the numbers of the records that hold the key.
 pub fn scan(cards: &[Band], key: Key) -> Scan
-    ensures { λ r. ⌜ scanSays r ≡ scanOf (bandsOf (now (cards .entry))) (key .0) ⌝ }
+    ensures { λ r. ⌜
+        (scanSays r ≡ scanOf (bandsOf (now (cards .entry))) (key .0))
+        × (now (cards .exit) ≡ now (cards .entry))
+        ⌝ }
 {
     let mut pass = Pass::begin(key);
     let mut at = 0;

@@ -20,7 +20,10 @@ pub const MOST_RECORDS: usize = 1100;
 
 // Scans all whole records among the words. Those left unread come after a bad one and play no part.
 pub fn scan_words(words: &[u32], key: Key) -> Scan
-    ensures { λ r. ⌜ scanSays r ≡ scanOf (recordsIn (now (words .entry))) (key .0) ⌝ }
+    ensures { λ r. ⌜
+        (scanSays r ≡ scanOf (recordsIn (now (words .entry))) (key .0))
+        × (now (words .exit) ≡ now (words .entry))
+        ⌝ }
 {
     let count = record_count(words);
     let cards = gather(words, count);

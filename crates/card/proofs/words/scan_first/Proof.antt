@@ -152,8 +152,12 @@ module _ {M : Type 1} (𝓤 : URA M) (H : Heap 𝓤) (A : Atoms 𝓤) (W : Given
     abbrev Ensured : Scan → SProp 𝓤
     Ensured r = ensured 𝓤 H A scan.ended (scan.clauses 𝓤 H A mem run) (α ∷ [], tt) (ref, (key, tt)) tt r
 
-    scan-said : (r : Scan) → ent 𝓤 (Ensured r) (fact 𝓤 (Told r))
-    scan-said r = exE 𝓤 _ (λ ws. snd∗ 𝓤 (sem 𝓤 H A (lasts scan.ended (α ∷ [], tt) (ref, (key, tt)) ws)) (fact 𝓤 (Told r)))
+    -- .. and of the bands, which are left as they were lent
+    abbrev Said : Scan → Type 0
+    Said r = Told r × (lent ≡ lent)
+
+    scan-said : (r : Scan) → ent 𝓤 (Ensured r) (fact 𝓤 (Said r))
+    scan-said r = exE 𝓤 _ (λ ws. snd∗ 𝓤 (sem 𝓤 H A (lasts scan.ended (α ∷ [], tt) (ref, (key, tt)) ws)) (fact 𝓤 (Said r)))
 
     abbrev Returned : Val → Item 𝓤
     Returned u = later (some (λ (r : Scan). ((‵ (flft (α ∷ []) fullShare) ⊛ ‵ ftrue) ⊛ ‵ (S.the-row .own r (u ∷ []))) ⊛ raw (Ensured r)))
@@ -183,7 +187,7 @@ module _ {M : Type 1} (𝓤 : URA M) (H : Heap 𝓤) (A : Atoms 𝓤) (W : Given
           (lands C Λ Ev (place 0 []) u return (atRet Ev Post))
       lands-it α γ u =
           use1 W (Returned l₄ α γ u) (id⊢ 𝓤 _) $ await ! tt $ pick ! (λ r. split ! $ move ! (1 ∷ []) $
-          use1 W (raw (fact 𝓤 (Told r))) (scan-said l₄ α γ r) $ heard ! (Told r) (λ e. split ! $ split ! $
+          use1 W (raw (fact 𝓤 (Said l₄ α γ r))) (scan-said l₄ α γ r) $ heard ! (Said l₄ α γ r) (λ e. split ! $ split ! $
           -- [the token; nothing; the result; the lender's part; the others; the locals]
           lft-end ! tt $ move ! (0 ∷ 3 ∷ []) $ lent-back ! tt $ move ! (0 ∷ 3 ∷ []) $
           use2 W (‵ (froom array l₄ 0)) (whole-again 𝓤 H A W B.the-row mostRecords count cards l₄ 0 size) $ move ! (2 ∷ []) $
@@ -193,7 +197,7 @@ module _ {M : Type 1} (𝓤 : URA M) (H : Heap 𝓤) (A : Atoms 𝓤) (W : Given
           forget ! 3 refl $ forget ! 5 refl $ forget ! 8 refl $ forget ! 10 refl $ forget ! 12 refl $ forget ! 14 refl $
           move ! (14 ∷ 15 ∷ []) $ free1 ! $ move ! (12 ∷ 13 ∷ []) $ free1 ! $ move ! (10 ∷ 11 ∷ []) $ free1 ! $ move ! (8 ∷ 9 ∷ []) $ free1 ! $
           move ! (1 ∷ 7 ∷ []) $ free1 ! $ move ! (4 ∷ 5 ∷ []) $ free1 ! $ move ! (2 ∷ 3 ∷ []) $ free1 ! $ free0 ! $
-          keep ! (0 ∷ []) $ by ! (exits r u e))))
+          keep ! (0 ∷ []) $ by ! (exits r u (e .0)))))
 
       -- _6 is the slice: the array is cut in two, a lifetime is made, the first bands are lent for it, and `scan` is called
       lends : Sq W (‵ (fat fullShare slice l₆ 0 (sliceVal (l₄, 0) count)) ∷ ‵ (fdies slice l₆) ∷ ‵ (fat fullShare arrayRef l₅ 0 (vptr l₄ 0)) ∷ ‵ (fdies arrayRef l₅)

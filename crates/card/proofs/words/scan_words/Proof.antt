@@ -1,7 +1,7 @@
 -- `card::words::scan_words` meets its contract: the gathered records tell what all of the card's tell.
 -- Assumes nothing.
 use Prim.Native.Nat.{ℕ}
-use mathlib.Core.Path.{ap, _∙_}
+use mathlib.Core.Path.{refl, ap, _∙_}
 use mathlib.Core.List.{List}
 use native.Mathlib.Omega.{arith}
 use borrow.Author.Needs.{needs}
@@ -25,11 +25,13 @@ scan-first-requires c κs = omega (arith, count-at-most (c .before .before .befo
 returns : tie.Need-returns
 returns c =
     let words = c .before .before .before .before .args .words .now in
-    let key = c .before .before .before .before .args .key .0 in
-    c .scan-first .ensures
-    ∙ ap (λ (bs : List Band). scanOf bs key) (c .before .gather .ensures)
-    ∙ ap (λ (n : ℕ). scanOf (take n (recordsIn words)) key) (c .before .before .record-count .ensures)
-    ∙ read-enough words key
+    let key = c .before .before .before .before .args .key .0 in (
+      c .scan-first .ensures
+          ∙ ap (λ (bs : List Band). scanOf bs key) (c .before .gather .ensures)
+          ∙ ap (λ (n : ℕ). scanOf (take n (recordsIn words)) key) (c .before .before .record-count .ensures)
+          ∙ read-enough words key,
+      refl,
+    )
 
 pub scan-words-spec : {M : Type 1} → statement M
 scan-words-spec =

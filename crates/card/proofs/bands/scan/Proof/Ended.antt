@@ -40,7 +40,7 @@ module _ {M : Type 1} {𝓤 : URA M} {H : Heap 𝓤} {A : Atoms 𝓤} (w : Known
   exits r v is e =
       qed (w .rules) (‵ (Token g) ∷ ‵ (Owned g) ∷ []) ∵
       suffices ! _ (ends-at 𝓤 H A scan.ended stayed (scan.clauses 𝓤 H A (w .mem) (w .run)) (w .rules) (bound w g) v r (tt, (tt, tt)) (tt, (tt, tt))) $
-      says ! e $ nothing ! $ move ! (1 ∷ 0 ∷ []) $ join ! $ frame ! $
+      says ! (e, refl) $ nothing ! $ move ! (1 ∷ 0 ∷ []) $ join ! $ frame ! $
       nothing ! $ owned ! K.the-row (Is K.the-row) (LL.makes K.the-type K′.the-plain 𝓤 H A) (g .key) (g .key-value ∷ []) (g .is-key) $ fjoin ! $
       move ! (1 ∷ 0 ∷ []) $ fjoin ! $ frame ! $
       owned ! S.the-row (Is S.the-row) (LL.makes S.the-type S′.the-plain 𝓤 H A) r (v ∷ []) is $ done !
