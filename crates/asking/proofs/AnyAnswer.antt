@@ -1,12 +1,11 @@
--- Whatever answer meets the promise of a call that asks, which is what its `ensures` says, whatever it was lent and given: when it has which number, zeros
--- throughout beside a refusal, what it tells else, in plain words, and that all three slices are as they were. These are the laws of AskingRefused,
--- RefusedZeros, StabCounts, StabExact, BandExact, EdgeExact, NodeExact and RoomExact, said of the answer itself and not of the definition that the promise
--- holds it to.
+-- Whatever answer meets the promise of a call that asks, whatever it was lent and given: when it has which number, zeros beside a refusal, what it tells
+-- else, and that all slices are as they were. The laws of AskingRefused, RefusedZeros, StabCounts and the ..Exact files, said of the answer itself.
+-- Last, the likeness: on memories alike in header, node and mark words two such answers are the same.
 -- Assumes nothing.
 use Prim.{Unit}
 use Prim.Native.Nat.{ℕ, _≤_, _<_}
 use contract.Lifetimes.{Lfts}
-use mathlib.Core.Path.{_≡_, sym, subst}
+use mathlib.Core.Path.{_≡_, sym, _∙_, ap, subst}
 use mathlib.Core.Bool.{true}
 use mathlib.Core.Option.{some}
 use lib.ListN.{length}
@@ -44,7 +43,8 @@ use Rattle.asking.proofs.BandExact.{band-exact}
 use Rattle.asking.proofs.EdgeExact.{ExactEdge, edge-exact}
 use Rattle.asking.proofs.NodeExact.{ExactNode, node-exact}
 use Rattle.asking.proofs.RoomExact.{room-exact}
-use Rattle.asking.proofs.Promises.{StabPromise, BandPromise, EdgePromise, NodePromise, RoomPromise}
+use Rattle.asking.proofs.Alike.{stabs-alike, edges-alike, nodes-alike}
+use Rattle.asking.proofs.Settled.{stab-told-back, edge-told-back, node-told-back}
 use Rattle.asking.proofs.Promises.{StabPromise, BandPromise, EdgePromise, NodePromise, RoomPromise}
 
 -- ---- what is told of a memory
@@ -176,3 +176,44 @@ module _ (κs : Lfts 3) where
   any-room given after r met =
       let m = lentMemory given in
       (subst (RoomTold m) (sym (what-was-told given after met)) (room-told m), words-left given after met)
+
+-- ---- the likeness, of whatever meets a promise
+
+-- two memories of right sizes, sound or not, are alike in header, node and mark words; what else is given is the same
+pub record LentAlike {A : Type 0} (given other : Lent A) : Type 0 where
+  pub right : sizesRight (lengthsIn (lentMemory given)) ≡ true
+  pub other-right : sizesRight (lengthsIn (lentMemory other)) ≡ true
+  pub nodes : lentMemory given .nodes ≡ lentMemory other .nodes
+  pub marks : lentMemory given .marks ≡ lentMemory other .marks
+  pub also : alsoGiven given ≡ alsoGiven other
+
+module _ (κs : Lfts 3) where
+  pub any-stabs-alike : (given after other after′ : Lent (Key × Unit {0})) (a b : StabRead) → StabPromise κs given a after → StabPromise κs other b after′
+      → LentAlike given other → a ≡ b
+  any-stabs-alike given after other after′ a b met met′ alike =
+      stab-told-back a b (
+      what-was-told given after met
+      ∙ stabs-alike (lentMemory given) (lentMemory other) (alike .right) (alike .other-right) (alike .nodes) (alike .marks) (alsoGiven given .0 .0)
+      ∙ ap (λ x. stabIn (lentMemory other) (x .0 .0)) (alike .also)
+      ∙ sym (what-was-told other after′ met′)
+      )
+
+  pub any-edges-alike : (given after other after′ : Lent (Key × (ℕ × Unit {0}))) (a b : EdgeRead) → EdgePromise κs given a after
+      → EdgePromise κs other b after′ → LentAlike given other → a ≡ b
+  any-edges-alike given after other after′ a b met met′ alike =
+      edge-told-back a b (
+      what-was-told given after met
+      ∙ edges-alike (lentMemory given) (lentMemory other) (alike .right) (alike .other-right) (alike .nodes) (alike .marks) (alsoGiven given .0 .0) (alsoGiven given .1 .0)
+      ∙ ap (λ x. edgeIn (lentMemory other) (x .0 .0) (x .1 .0)) (alike .also)
+      ∙ sym (what-was-told other after′ met′)
+      )
+
+  pub any-nodes-alike : (given after other after′ : Lent (Key × Unit {0})) (a b : NodeRead) → NodePromise κs given a after → NodePromise κs other b after′
+      → LentAlike given other → a ≡ b
+  any-nodes-alike given after other after′ a b met met′ alike =
+      node-told-back a b (
+      what-was-told given after met
+      ∙ nodes-alike (lentMemory given) (lentMemory other) (alike .right) (alike .other-right) (alike .nodes) (alike .marks) (alsoGiven given .0 .0)
+      ∙ ap (λ x. nodeIn (lentMemory other) (x .0 .0)) (alike .also)
+      ∙ sym (what-was-told other after′ met′)
+      )

@@ -15,12 +15,11 @@ use Rattle.hall.specs.declared.reads.EdgeRead.{EdgeRead}
 use Rattle.hall.specs.declared.reads.NodeRead.{NodeRead}
 use Rattle.hall.specs.declared.reads.RoomRead.{RoomRead}
 use Rattle.asking.proofs.Promises.{StabPromise, BandPromise, EdgePromise, NodePromise, RoomPromise}
-use Rattle.asking.proofs.Promises.{StabPromise, BandPromise, EdgePromise, NodePromise, RoomPromise}
 use Rattle.hall.specs.declared.keys.Key.{Key}
 
 -- ---- what an answer says tells it back
 
-stab-told-back : (a b : StabRead) → stabSays a ≡ stabSays b → a ≡ b
+pub stab-told-back : (a b : StabRead) → stabSays a ≡ stabSays b → a ≡ b
 stab-told-back a b same =
     let answer = answer-one-to-one (a .answer) (b .answer) (ap (λ s. s .refusal) same) in
     λ i. record {
@@ -43,13 +42,13 @@ band-told-back a b same =
       «high_closed» = same i .read .highClosed;
     }
 
-edge-told-back : (a b : EdgeRead) → edgeReadSays a ≡ edgeReadSays b → a ≡ b
+pub edge-told-back : (a b : EdgeRead) → edgeReadSays a ≡ edgeReadSays b → a ≡ b
 edge-told-back a b same =
     let answer = answer-one-to-one (a .answer) (b .answer) (ap (λ s. s .refusal) same) in
     let next = next-key-one-to-one (a .next) (b .next) (ap (λ s. s .read .next) same) in
     λ i. record { answer = answer i; next = next i; flags = same i .read .flags }
 
-node-told-back : (a b : NodeRead) → nodeReadSays a ≡ nodeReadSays b → a ≡ b
+pub node-told-back : (a b : NodeRead) → nodeReadSays a ≡ nodeReadSays b → a ≡ b
 node-told-back a b same =
     let answer = answer-one-to-one (a .answer) (b .answer) (ap (λ s. s .refusal) same) in
     λ i. record { answer = answer i; level = same i .read .level; flags = same i .read .flags }

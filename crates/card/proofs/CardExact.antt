@@ -13,13 +13,14 @@ use lib.ListN.{length}
 use Rattle.rules.specs.Lists.{countIf, member}
 use Rattle.rules.specs.HallLine.{Band, highestKey, holds}
 use Rattle.rules.specs.Flags.{flagCount, flagAt}
-use Rattle.rules.specs.BoxSaysNo.{bandLines, bandFault, noFlags}
+use Rattle.rules.specs.BoxSaysNo.{bandLines, bandFault}
 use Rattle.rules.specs.BenchCard.{Scan as RuledScan, Bad, bad, recordFault, cardBad, scanOf}
 use Rattle.rules.proofs.Means.{passes-or-fails, denied, at-most-or-above}
 use Rattle.rules.proofs.Lists.{In, Some, member-means, in-map}
 use Rattle.rules.proofs.Marks.{numbersOf}
 use Rattle.rules.proofs.FirstLine.{ordered-from, Lowest, lowest-given}
 use Rattle.rules.proofs.BoxSaysNo.{BandRight, band-fault-zero}
+use Rattle.rules.proofs.Zeros.{no-flags-zeros}
 use Rattle.rules.proofs.BenchCard.{record-fault-zero, record-fault-of-band, record-fault-twice, CardRight, FirstBad, right-or-bad, card-key-bad, card-first-bad, card-bad-zero, scan-tells, scan-zeros, scan-right, scan-flag, scan-count}
 use Rattle.hall.specs.Says.{answerSays}
 use Rattle.card.specs.Says.{scanSays}
@@ -138,11 +139,12 @@ module _ (records : List Band) (k : ℕ) (r : Scan) (meets : scanSays r ≡ scan
   pub scan-exact : answerSays (r .answer) ≡ 0 → ExactScan records k (scanSays r)
   scan-exact z = rw meets (exact records k (ap (λ (s : RuledScan). s .refusal) (sym meets) ∙ z))
 
-  -- beside something bad flags and count are zero
-  pub bad-card-zeros : (answerSays (r .answer) ≡ 0 → ⊥) → (r .flags ≡ noFlags) × (r .count ≡ 0)
+  -- beside something bad the sixteen words of flags are 0, and the count is
+  pub bad-card-zeros : (answerSays (r .answer) ≡ 0 → ⊥)
+      → (r .flags ≡ 0 ∷ 0 ∷ 0 ∷ 0 ∷ 0 ∷ 0 ∷ 0 ∷ 0 ∷ 0 ∷ 0 ∷ 0 ∷ 0 ∷ 0 ∷ 0 ∷ 0 ∷ 0 ∷ []) × (r .count ≡ 0)
   bad-card-zeros h =
       let zeros = scan-zeros records k (λ z. h (ap (λ (s : RuledScan). s .refusal) meets ∙ scan-tells records k .0 ∙ z)) in
-      (ap (λ (s : RuledScan). s .flags) meets ∙ zeros .0, ap (λ (s : RuledScan). s .count) meets ∙ zeros .1)
+      (ap (λ (s : RuledScan). s .flags) meets ∙ zeros .0 ∙ no-flags-zeros, ap (λ (s : RuledScan). s .count) meets ∙ zeros .1)
 
   -- the answer tells what the rules find bad
   told : (w : Bad) → cardBad records k ≡ w → (answerSays (r .answer) ≡ w .refusal) × (r .place ≡ w .place)

@@ -1,4 +1,4 @@
--- How one comes from an empty profile to a memory that says a given one: on memory that soundly says a profile inserts and removes answer what the rules
+-- The steps from an empty profile on: memory made empty soundly says it; on memory that soundly says a profile inserts and removes answer what the rules
 -- give on it, in the room that was lent; an accepted insert leaves what the rules come to; and every stab and readout is the rules' own.
 -- Assumes nothing.
 use Prim.Native.Nat.{ℕ}

@@ -1,13 +1,12 @@
--- Two bands of one open stretch, by the rules alone: into an empty profile the first goes in wherever there is room for two nodes, with any room for
--- marks that is in range, and the second after it wherever there is room for two nodes and two marks. In less room they are refused, by 11 and by 12.
--- Proved by computing, and so kept apart from the rules' own laws: an edit of the rules is to be refused by their table and the laws that it is about.
+-- Two bands of one open stretch, and two of one key, by the rules alone: in which room the first goes into an empty profile, and the second after it; in
+-- less they are refused, by 11 and by 12. Proved by computing, and so apart from the rules' own laws, to which their edits are held.
 -- Assumes nothing.
 use Prim.Native.Nat.{ℕ, _≤_, _<_}
 use mathlib.Core.Path.{_≡_}
 use mathlib.Core.Bool.{true}
 use native.Mathlib.Omega.{arith}
 use borrow.Author.Tests.{lt-ltb, le-ltb}
-use Rattle.rules.specs.HallLine.{Band, house}
+use Rattle.rules.specs.HallLine.{Band, bandOf, house}
 use Rattle.rules.specs.Profile.{Profile, emptyProfile}
 use Rattle.rules.specs.Changes.{inserted}
 use Rattle.rules.specs.Room.{Room, roomInRange}
@@ -15,6 +14,7 @@ use Rattle.rules.specs.BoxSaysNo.{insertRefusal}
 use Rattle.rules.specs.BenchProfile.{open′}
 use Rattle.rules.specs.Computes.{computes}
 use Rattle.rules.proofs.BoxSaysNo.{room-in-range-means}
+use Rattle.rules.proofs.Theory.OneBand.{zeroBand}
 
 -- the house band (10,20) of that number: it holds neither of its ends, so it is marked on edges alone
 abbrev pub spanBand : ℕ → Band
@@ -50,3 +50,27 @@ module _ (room : Room) where
     pub second-span-refused : room .marks < 2 → insertRefusal true true room oneSpan (spanBand 2) 3 3 ≡ 12
     unfolding computes
     second-span-refused few = rw (le-ltb (room .nodes) 2 nodes, lt-ltb (room .marks) 2 few)
+
+-- number 0, the house band [0,0], alone, its one node with level 1 ..
+abbrev pub oneKey : Profile
+oneKey = inserted emptyProfile zeroBand 1 1
+
+-- .. and number 1, of the same key, whose node stands already
+abbrev pub sameKey : Band
+sameKey = bandOf 1 house 0 0 true true
+
+abbrev pub twoOnKey : Profile
+twoOnKey = inserted oneKey sameKey 1 1
+
+module _ (room : Room) (in-range : roomInRange room ≡ true) where
+  some-node : 1 ≤ room .nodes
+  some-node = omega (arith, room-in-range-means room .fact in-range)
+
+  -- one node is enough for both, and each takes one mark, so that with room for one mark number 1 is refused by 12
+  pub same-key-goes-in : 2 ≤ room .marks → insertRefusal true true room oneKey sameKey 1 1 ≡ 0
+  unfolding computes
+  same-key-goes-in marks = rw (le-ltb (room .nodes) 1 some-node, le-ltb (room .marks) 2 marks)
+
+  pub same-key-refused : room .marks < 2 → insertRefusal true true room oneKey sameKey 1 1 ≡ 12
+  unfolding computes
+  same-key-refused few = rw (le-ltb (room .nodes) 1 some-node, lt-ltb (room .marks) 2 few)

@@ -28,11 +28,12 @@ use Rattle.store.proofs.ChangeIn.{LeavesSound}
 use Rattle.asking.specs.StabCall.{stabIn}
 use Rattle.asking.specs.BandCall.{bandIn}
 use Rattle.asking.specs.EdgeCall.{edgeIn}
+use Rattle.asking.specs.NodeCall.{nodeIn}
 use Rattle.asking.specs.RoomCall.{roomReadIn}
 use Rattle.emptying.specs.EmptyCall.{emptyIn}
 use Rattle.inserting.specs.InsertCall.{insertIn}
-use Rattle.demands.proofs.FromEmpty.{room-right, emptied, insert-answers, with-band, stabbed, band-read, edge-read, room-read}
-use Rattle.demands.proofs.TwoBands.{spanBand, oneSpan, twoSpans, first-span-refused, first-span-goes-in, second-span-goes-in, second-span-refused}
+use Rattle.demands.proofs.FromEmpty.{room-right, emptied, insert-answers, with-band, stabbed, band-read, edge-read, node-read, room-read}
+use Rattle.demands.proofs.TwoBands.{spanBand, oneSpan, twoSpans, first-span-refused, first-span-goes-in, second-span-goes-in, second-span-refused, sameKey, twoOnKey, same-key-goes-in, same-key-refused}
 use Rattle.demands.proofs.NotAlwaysRefused.{some-insert-accepted}
 
 -- ---- the memories spoken of
@@ -180,7 +181,7 @@ pub record BothMarked (e : Memory) : Type 0 where
   -- and a stab between the ends meets both
   pub both-met : stabIn (twoSpansIn e .after) 15 .read .met ≡ 2
 
--- in every room for two nodes and two marks, without which no two bands are marked on edges
+-- in every room for two nodes and two marks
 module _ (m : Memory) (right : sizesRight (lengthsIn m) ≡ true) (nodes : 2 ≤ roomIn m .nodes) (marks : 2 ≤ roomIn m .marks) where
   two-accepted : twoSpansIn (emptyIn m .after) .refusal ≡ 0
   two-accepted = insert-answers (span-says m right nodes) (spanBand 2) 3 3 ∙ second-span-goes-in (roomIn m) nodes marks
@@ -208,3 +209,43 @@ pub later-band-needs-two-marks : (m : Memory) → sizesRight (lengthsIn m) ≡ t
     → twoSpansIn (emptyIn m .after) .refusal ≡ 12
 later-band-needs-two-marks m right nodes few =
     insert-answers (span-says m right nodes) (spanBand 2) 3 3 ∙ second-span-refused (roomIn m) nodes few
+
+-- the same on a node, for which one node is enough: number 1 of the same key after number 0
+abbrev pub twoOnKeyIn : Memory → Change Memory
+twoOnKeyIn e = insertIn (zeroIn e .after) sameKey 1 1
+
+pub record BothMarkedOnNode (e : Memory) : Type 0 where
+  pub first-accepted : zeroIn e .refusal ≡ 0
+  pub second-accepted : twoOnKeyIn e .refusal ≡ 0
+  -- both bands live
+  pub first-lives : bandIn (twoOnKeyIn e .after) 0 .refusal ≡ 0
+  pub second-lives : bandIn (twoOnKeyIn e .after) 1 .refusal ≡ 0
+  -- both are marked on the node at 0
+  pub first-marked : flagAt (nodeIn (twoOnKeyIn e .after) 0 .read .flags) 0 ≡ 1
+  pub second-marked : flagAt (nodeIn (twoOnKeyIn e .after) 0 .read .flags) 1 ≡ 1
+  -- these are the marks in use
+  pub marks-in-use : roomReadIn (twoOnKeyIn e .after) .read .marks ≡ 2
+  -- and a stab there meets both
+  pub both-met : stabIn (twoOnKeyIn e .after) 0 .read .met ≡ 2
+
+-- in every room for two marks
+module _ (m : Memory) (right : sizesRight (lengthsIn m) ≡ true) where
+  pub later-bands-not-only-listed-on-nodes : 2 ≤ roomIn m .marks → BothMarkedOnNode (emptyIn m .after)
+  unfolding computes
+  later-bands-not-only-listed-on-nodes marks =
+      let accepted = insert-answers (zero-says m right) sameKey 1 1 ∙ same-key-goes-in (roomIn m) (room-right m right) marks in
+      let says : LeavesSound m twoOnKey (twoOnKeyIn (emptyIn m .after) .after) = with-band (zero-says m right) sameKey 1 1 accepted in
+      record {
+        first-accepted = some-insert-accepted m right;
+        second-accepted = accepted;
+        first-lives = ap (λ a. a .refusal) (band-read says 0);
+        second-lives = ap (λ a. a .refusal) (band-read says 1);
+        first-marked = ap (λ a. flagAt (a .read .flags) 0) (node-read says 0);
+        second-marked = ap (λ a. flagAt (a .read .flags) 1) (node-read says 0);
+        marks-in-use = ap (λ a. a .read .marks) (room-read says);
+        both-met = ap (λ a. a .read .met) (stabbed says 0);
+      }
+
+  -- .. and with room for fewer the second insert is refused
+  pub later-key-needs-two-marks : roomIn m .marks < 2 → twoOnKeyIn (emptyIn m .after) .refusal ≡ 12
+  later-key-needs-two-marks few = insert-answers (zero-says m right) sameKey 1 1 ∙ same-key-refused (roomIn m) (room-right m right) few

@@ -72,7 +72,7 @@ laneCountField = 1
 abbrev pub marksInUseField : ℕ
 marksInUseField = 10
 
--- which word of the marks mark place i is: these places count from 1, as node places do
+-- which word of the marks mark place i is, for i from 1: these places count as node places do
 abbrev pub markWord : ℕ → ℕ
 markWord i = i - 1
 
