@@ -1,6 +1,5 @@
--- Whatever answer meets the promise of a call that asks, whatever it was lent and given: when it has which number, zeros beside a refusal, what it tells
--- else, and that all slices are as they were. The laws of AskingRefused, RefusedZeros, StabCounts and the ..Exact files, said of the answer itself.
--- Last, the likeness: on memories alike in header, node and mark words two such answers are the same.
+-- The laws of AskingRefused, RefusedZeros, StabCounts and the ..Exact files, and the likeness, said of whatever answer meets the promise of a call that
+-- asks, whatever it was lent and given; and that all slices are as they were.
 -- Assumes nothing.
 use Prim.{Unit}
 use Prim.Native.Nat.{ℕ, _≤_, _<_}
@@ -192,28 +191,28 @@ module _ (κs : Lfts 3) where
       → LentAlike given other → a ≡ b
   any-stabs-alike given after other after′ a b met met′ alike =
       stab-told-back a b (
-      what-was-told given after met
+      ap (λ o. o .told) met
       ∙ stabs-alike (lentMemory given) (lentMemory other) (alike .right) (alike .other-right) (alike .nodes) (alike .marks) (alsoGiven given .0 .0)
       ∙ ap (λ x. stabIn (lentMemory other) (x .0 .0)) (alike .also)
-      ∙ sym (what-was-told other after′ met′)
+      ∙ sym (ap (λ o. o .told) met′)
       )
 
   pub any-edges-alike : (given after other after′ : Lent (Key × (ℕ × Unit {0}))) (a b : EdgeRead) → EdgePromise κs given a after
       → EdgePromise κs other b after′ → LentAlike given other → a ≡ b
   any-edges-alike given after other after′ a b met met′ alike =
       edge-told-back a b (
-      what-was-told given after met
+      ap (λ o. o .told) met
       ∙ edges-alike (lentMemory given) (lentMemory other) (alike .right) (alike .other-right) (alike .nodes) (alike .marks) (alsoGiven given .0 .0) (alsoGiven given .1 .0)
       ∙ ap (λ x. edgeIn (lentMemory other) (x .0 .0) (x .1 .0)) (alike .also)
-      ∙ sym (what-was-told other after′ met′)
+      ∙ sym (ap (λ o. o .told) met′)
       )
 
   pub any-nodes-alike : (given after other after′ : Lent (Key × Unit {0})) (a b : NodeRead) → NodePromise κs given a after → NodePromise κs other b after′
       → LentAlike given other → a ≡ b
   any-nodes-alike given after other after′ a b met met′ alike =
       node-told-back a b (
-      what-was-told given after met
+      ap (λ o. o .told) met
       ∙ nodes-alike (lentMemory given) (lentMemory other) (alike .right) (alike .other-right) (alike .nodes) (alike .marks) (alsoGiven given .0 .0)
       ∙ ap (λ x. nodeIn (lentMemory other) (x .0 .0)) (alike .also)
-      ∙ sym (what-was-told other after′ met′)
+      ∙ sym (ap (λ o. o .told) met′)
       )

@@ -5,7 +5,7 @@
 --   Alike             stab, edge and node readout are the same where header, node and mark words are
 --   StabCounts        a stab's count is the number of set flags
 --   Settled           no second outcome meets a call's promise, and what meets it leaves memory as it was
---   AnyAnswer         whatever answer meets a call's promise, refused or not: the laws in plain words, said of the answer itself
+--   AnyAnswer         whatever answer meets a call's promise, refused or not: the laws in plain words and the likeness, said of the answer itself
 -- On memory of right sizes:
 --   BandExact         the band readout in plain words
 -- On sound memory:

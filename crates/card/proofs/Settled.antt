@@ -1,5 +1,5 @@
--- No second outcome meets a promise of the card: of two that meet what the `ensures` says, whatever was lent and given, the answers are equal and
--- so is what was lent, as it stands after it; what is lent to be read is as it was. Stated of the promise itself: one that said less would not settle the outcome.
+-- No second outcome meets a promise of the card: of two that meet what the `ensures` says, whatever was lent and given, the answers are equal and so is
+-- what was lent, as it stands after it; what is lent to be read is as it was. Stated of the promise itself: one that said less would not settle it.
 -- Assumes nothing.
 use Prim.{Unit}
 use Prim.Native.Nat.{ℕ}

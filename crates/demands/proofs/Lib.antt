@@ -12,7 +12,7 @@
 --   KeepsSound        every call leaves sound memory sound (and every memory as long as it was)
 -- .. from an empty profile on:
 --   NotAlwaysRefused  a one-key band is inserted into an empty profile, and removed again, in every room
---   Witnesses         something is there that a wrong box could not show: keys whose stabs differ, a mark in lane 2 alone, two bands marked on an edge
+--   Witnesses         something is there that a wrong box could not show: keys whose stabs differ, a mark in lane 2 alone, two bands marked on an edge or on a node
 --   MarksAlone        bands are found and read by node and mark words, whatever the list of bands has
 --   AlwaysSound       after any calls memory is sound, stabs are exact and the readouts show exactly what the rule marks
 --   AlwaysRuled       .. and memory is the one memory of the profile that the rules come to by those calls
@@ -21,7 +21,8 @@
 --   ChangesOnly       which bands a change can make come or go: any test on bands
 --   EveryCall         each call is that call by the rules: it asks, or is a change; so what is so of every change, and of memory left as it was, is so of all
 --   FromEmpty         on memory that soundly says a profile each call answers what the rules answer on it
---   TwoBands          by the rules alone: two bands of one open stretch go in where there is room for two nodes and two marks, and not in less
+--   TwoBands          by the rules alone: two bands of one open stretch go in where there is room for two nodes and two marks, and not in less; two of
+--                     one key where there is room for two marks
 pub mod AsPromised
 pub mod ChangesOnly
 pub mod EveryCall

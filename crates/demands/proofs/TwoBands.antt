@@ -1,5 +1,5 @@
--- Two bands of one open stretch, and two of one key, by the rules alone: in which room the first goes into an empty profile, and the second after it; in
--- less they are refused, by 11 and by 12. Proved by computing, and so apart from the rules' own laws, to which their edits are held.
+-- Two bands of one open stretch, and a second band of one key, by the rules alone: in which room each goes in, from an empty profile on; in less it is
+-- refused, by 11 or by 12. Proved by computing, and so apart from the rules' own laws, to which their edits are held.
 -- Assumes nothing.
 use Prim.Native.Nat.{ℕ, _≤_, _<_}
 use mathlib.Core.Path.{_≡_}

@@ -1,4 +1,5 @@
--- What a call that is lent memory is given, as promises speak of it: the three slices, and what else. For the laws of whatever meets a promise.
+-- What a call that is lent memory is given, as promises speak of it: the three slices, and what else; and how a slice lent by `&` is seen at the end.
+-- For the laws of whatever meets a promise.
 -- Assumes nothing.
 use Prim.Native.Nat.{ℕ}
 use mathlib.Core.Path.{_≡_, refl}
@@ -27,8 +28,8 @@ lentMemory x = lent (x .0 .now) (x .1 .0 .now) (x .1 .1 .0 .now)
 abbrev pub SameWords : {A : Type 0} → Lent A → Lent A → Type 0
 SameWords x y = (x .0 .now ≡ y .0 .now) × (x .1 .0 .now ≡ y .1 .0 .now) × (x .1 .1 .0 .now ≡ y .1 .1 .0 .now)
 
--- how the kit reads a slice that is lent by `&`: when the call ends it is seen as it was passed, as one value. So what a promise says of its `exit`
--- holds of every function that is lent it so, and that none writes it is the kit's own law of what such a slice owns
+-- how the kit reads a slice that is lent by `&`: when the call ends it is seen as it was passed, as one value. So that it then stands as it was holds of
+-- every function that is lent it so, and that none writes it is the kit's own law of what such a slice owns
 pub exit-is-entry : (ℓ : Lifetime) (κ : Lft) (A : RattleType) (kept : Kept) (x : ShrSlice ℓ κ A .Denot) (w : Last (ShrSlice ℓ κ A .exit kept) x)
     → see (ShrSlice ℓ κ A .exit kept) x w ≡ x
 exit-is-entry ℓ κ A kept x w = refl
