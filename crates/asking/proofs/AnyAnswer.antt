@@ -16,6 +16,7 @@ use Rattle.rules.specs.Readouts.{BandRead as RuledBandRead, bandReadOf, EdgeRea
 use Rattle.rules.specs.BoxSaysNo.{Answered, saying}
 use Rattle.rules.proofs.Lists.{Each}
 use Rattle.rules.proofs.OthersRefused.{SizesGive, StabGives}
+use Rattle.rules.proofs.Zeros.{StabOfZeros, BandOfZeros, EdgeOfZeros, NodeOfZeros, RoomOfZeros, ZerosIfRefused}
 use Rattle.hall.specs.declared.keys.Key.{Key}
 use Rattle.hall.specs.declared.reads.StabRead.{StabRead}
 use Rattle.hall.specs.declared.reads.BandRead.{BandRead}
@@ -35,7 +36,7 @@ use Rattle.asking.specs.EdgeCall.{edgeIn}
 use Rattle.asking.specs.NodeCall.{nodeIn}
 use Rattle.asking.specs.RoomCall.{roomReadIn}
 use Rattle.asking.proofs.AskingRefused.{stab-refused-exactly, BandGivesIn, band-refused-exactly, EdgeGivesIn, edge-refused-exactly, EdgeGivesOf, edge-refused-on-sound, NodeGivesIn, node-refused-exactly, NodeGivesOf, node-refused-on-sound, room-refused-exactly}
-use Rattle.asking.proofs.RefusedZeros.{StabZeros, BandZeros, EdgeZeros, NodeZeros, RoomZeros, refused-answers-zeros}
+use Rattle.asking.proofs.RefusedZeros.{refused-answers-zeros}
 use Rattle.asking.proofs.StabCounts.{stab-counts-flags}
 use Rattle.asking.proofs.StabExact.{ExactStab, stab-exact}
 use Rattle.asking.proofs.BandExact.{band-exact}
@@ -53,7 +54,7 @@ pub record StabTold (m : Memory) (k : ℕ) (a : Answered Stab) : Type 0 where
   -- 1 exactly for wrong sizes, else 4 exactly for a key above the line, else 0
   pub refused : StabGives (sizesRight (lengthsIn m)) k (a .refusal)
   -- where that is not 0, zeros throughout
-  pub zeros : StabZeros a
+  pub zeros : ZerosIfRefused StabOfZeros a
   -- the count is the number of set flags
   pub counted : a .read .count ≡ setFlags (a .read .flags)
   -- on sound memory at a key on the line: 0, the flags of the live bands that hold the key, how many they are, as many marks met, the paper's looks
@@ -63,7 +64,7 @@ pub record StabTold (m : Memory) (k : ℕ) (a : Answered Stab) : Type 0 where
 pub record BandTold (m : Memory) (number : ℕ) (a : Answered RuledBandRead) : Type 0 where
   -- 1 exactly for wrong sizes, else 3 exactly for a number above 1,023, else 9 exactly where it is not live, else 0
   pub refused : BandGivesIn m number (a .refusal)
-  pub zeros : BandZeros a
+  pub zeros : ZerosIfRefused BandOfZeros a
   -- in memory of right sizes, sound or not, the band of that number as it stands
   pub exact : sizesRight (lengthsIn m) ≡ true → Each (λ b. b .number ≡ number → a ≡ saying 0 (bandReadOf (some b))) (saidProfile m .bands)
 
@@ -73,7 +74,7 @@ pub record EdgeTold (m : Memory) (k lane : ℕ) (a : Answered RuledEdgeRead) : T
   -- on sound memory 13 exactly where no node stands at the key or it has no such lane
   pub refused : EdgeGivesIn m k lane (a .refusal)
   pub refused-on-sound : sound m ≡ true → EdgeGivesOf (saidProfile m) k lane (a .refusal)
-  pub zeros : EdgeZeros a
+  pub zeros : ZerosIfRefused EdgeOfZeros a
   -- on sound memory, of a node at the key and a lane of its own: where the edge leads, and the flags of the live bands marked on it
   pub exact : sound m ≡ true
       → Each (λ n. n .key ≡ k → lane < n .level → (a .refusal ≡ 0) × ExactEdge (saidProfile m) k lane (a .read)) (saidProfile m .nodes)
@@ -84,7 +85,7 @@ pub record NodeTold (m : Memory) (k : ℕ) (a : Answered RuledNodeRead) : Type 0
   -- exactly where no node stands at the key
   pub refused : NodeGivesIn m k (a .refusal)
   pub refused-on-sound : sound m ≡ true → NodeGivesOf (saidProfile m) k (a .refusal)
-  pub zeros : NodeZeros a
+  pub zeros : ZerosIfRefused NodeOfZeros a
   -- on sound memory, of a node at the key: its level, and the flags of the live bands marked on it
   pub exact : sound m ≡ true → Each (λ n. n .key ≡ k → (a .refusal ≡ 0) × ExactNode (saidProfile m) n (a .read)) (saidProfile m .nodes)
 
@@ -92,7 +93,7 @@ pub record NodeTold (m : Memory) (k : ℕ) (a : Answered RuledNodeRead) : Type 0
 pub record RoomTold (m : Memory) (a : Answered RuledRoomRead) : Type 0 where
   -- 1 exactly for wrong sizes, else 0
   pub refused : SizesGive (sizesRight (lengthsIn m)) (a .refusal)
-  pub zeros : RoomZeros a
+  pub zeros : ZerosIfRefused RoomOfZeros a
   -- on sound memory how many nodes there are, and the rule's own count of all marks
   pub exact : sound m ≡ true → a ≡ saying 0 (record { nodes = length (saidProfile m .nodes); marks = marksInUse (saidProfile m) })
 

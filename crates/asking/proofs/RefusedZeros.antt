@@ -1,15 +1,12 @@
--- A refused stab or readout answers zeros throughout beside its number, written out here to the last word.
+-- A refused stab or readout answers zeros throughout beside its number, in numbers (Zeros of the rules has them).
 -- Assumes nothing.
 use Prim.Native.Nat.{ℕ}
 use mathlib.Core.Path.{_≡_, _∙_, ap}
-use mathlib.Core.Bool.{false}
-use mathlib.Core.List.{[], _∷_}
 use mathlib.Core.Option.{none, some}
-use Rattle.rules.specs.Search.{Stab}
-use Rattle.rules.specs.Readouts.{BandRead, bandReadOf, EdgeRead, NodeRead, RoomRead}
+use Rattle.rules.specs.Readouts.{bandReadOf}
 use Rattle.rules.specs.BoxSaysNo.{Answered, saying, stabRefusal, roomReadRefusal, noStab, noEdgeRead, noNodeRead, noRoomRead}
 use Rattle.rules.proofs.BoxSaysNo.{refused-zeros}
-use Rattle.rules.proofs.Zeros.{no-stab-zeros, no-band-zeros, no-edge-zeros, no-node-zeros, no-room-zeros}
+use Rattle.rules.proofs.Zeros.{StabOfZeros, BandOfZeros, EdgeOfZeros, NodeOfZeros, RoomOfZeros, ZerosIfRefused, no-stab-zeros, no-band-zeros, no-edge-zeros, no-node-zeros, no-room-zeros}
 use Rattle.store.specs.Sizes.{sizesRight}
 use Rattle.store.specs.Memory.{Memory, lengthsIn}
 use Rattle.store.specs.SaidProfile.{saidBand}
@@ -21,39 +18,18 @@ use Rattle.asking.specs.EdgeCall.{edgeRefusalIn, edgeAt, edgeIn}
 use Rattle.asking.specs.NodeCall.{nodeRefusalIn, nodeAt, nodeIn}
 use Rattle.asking.specs.RoomCall.{saidUse, roomReadIn}
 
--- what each answer tells where its number is not 0
-
--- of a stab: sixteen words of 0, and count, marks met and looks 0
-abbrev pub StabZeros : Answered Stab → Type 0
-StabZeros a =
-    (a .refusal ≡ 0 → ⊥)
-    → a .read ≡ record { flags = 0 ∷ 0 ∷ 0 ∷ 0 ∷ 0 ∷ 0 ∷ 0 ∷ 0 ∷ 0 ∷ 0 ∷ 0 ∷ 0 ∷ 0 ∷ 0 ∷ 0 ∷ 0 ∷ []; count = 0; met = 0; looks = 0 }
-
--- of a band: scope and both ends 0, and both ends open
-abbrev pub BandZeros : Answered BandRead → Type 0
-BandZeros a = (a .refusal ≡ 0 → ⊥) → a .read ≡ record { scope = 0; low = 0; high = 0; lowClosed = false; highClosed = false }
-
--- of an edge: no next key, and sixteen words of 0
-abbrev pub EdgeZeros : Answered EdgeRead → Type 0
-EdgeZeros a =
-    (a .refusal ≡ 0 → ⊥) → a .read ≡ record { next = none; flags = 0 ∷ 0 ∷ 0 ∷ 0 ∷ 0 ∷ 0 ∷ 0 ∷ 0 ∷ 0 ∷ 0 ∷ 0 ∷ 0 ∷ 0 ∷ 0 ∷ 0 ∷ 0 ∷ [] }
-
--- of a node: level 0, and sixteen words of 0
-abbrev pub NodeZeros : Answered NodeRead → Type 0
-NodeZeros a =
-    (a .refusal ≡ 0 → ⊥) → a .read ≡ record { level = 0; flags = 0 ∷ 0 ∷ 0 ∷ 0 ∷ 0 ∷ 0 ∷ 0 ∷ 0 ∷ 0 ∷ 0 ∷ 0 ∷ 0 ∷ 0 ∷ 0 ∷ 0 ∷ 0 ∷ [] }
-
--- of the room used: nodes and marks 0
-abbrev pub RoomZeros : Answered RoomRead → Type 0
-RoomZeros a = (a .refusal ≡ 0 → ⊥) → a .read ≡ record { nodes = 0; marks = 0 }
-
--- .. of every stab and readout on a memory
+-- every stab and readout on a memory; `StabOfZeros` and its like have the numbers
 pub record AnswersZeros (m : Memory) : Type 0 where
-  pub stab : (k : ℕ) → StabZeros (stabIn m k)
-  pub band : (number : ℕ) → BandZeros (bandIn m number)
-  pub edge : (k lane : ℕ) → EdgeZeros (edgeIn m k lane)
-  pub node : (k : ℕ) → NodeZeros (nodeIn m k)
-  pub room : RoomZeros (roomReadIn m)
+  -- sixteen words of 0, and count, marks met and looks 0
+  pub stab : (k : ℕ) → ZerosIfRefused StabOfZeros (stabIn m k)
+  -- scope and both ends 0, and both ends open
+  pub band : (number : ℕ) → ZerosIfRefused BandOfZeros (bandIn m number)
+  -- no next key, and sixteen words of 0
+  pub edge : (k lane : ℕ) → ZerosIfRefused EdgeOfZeros (edgeIn m k lane)
+  -- level 0, and sixteen words of 0
+  pub node : (k : ℕ) → ZerosIfRefused NodeOfZeros (nodeIn m k)
+  -- nodes and marks 0
+  pub room : ZerosIfRefused RoomOfZeros (roomReadIn m)
 
 pub refused-answers-zeros : (m : Memory) → AnswersZeros m
 unfolding stabIn bandIn edgeIn nodeIn roomReadIn

@@ -20,7 +20,7 @@ use Rattle.rules.proofs.Lists.{In, Some, member-means, in-map}
 use Rattle.rules.proofs.Marks.{numbersOf}
 use Rattle.rules.proofs.FirstLine.{ordered-from, Lowest, lowest-given}
 use Rattle.rules.proofs.BoxSaysNo.{BandRight, band-fault-zero}
-use Rattle.rules.proofs.Zeros.{no-flags-zeros}
+use Rattle.rules.proofs.Zeros.{sixteenZeros, no-flags-zeros}
 use Rattle.rules.proofs.BenchCard.{record-fault-zero, record-fault-of-band, record-fault-twice, CardRight, FirstBad, right-or-bad, card-key-bad, card-first-bad, card-bad-zero, scan-tells, scan-zeros, scan-right, scan-flag, scan-count}
 use Rattle.hall.specs.Says.{answerSays}
 use Rattle.card.specs.Says.{scanSays}
@@ -141,7 +141,7 @@ module _ (records : List Band) (k : ℕ) (r : Scan) (meets : scanSays r ≡ scan
 
   -- beside something bad the sixteen words of flags are 0, and the count is
   pub bad-card-zeros : (answerSays (r .answer) ≡ 0 → ⊥)
-      → (r .flags ≡ 0 ∷ 0 ∷ 0 ∷ 0 ∷ 0 ∷ 0 ∷ 0 ∷ 0 ∷ 0 ∷ 0 ∷ 0 ∷ 0 ∷ 0 ∷ 0 ∷ 0 ∷ 0 ∷ []) × (r .count ≡ 0)
+      → (r .flags ≡ sixteenZeros) × (r .count ≡ 0)
   bad-card-zeros h =
       let zeros = scan-zeros records k (λ z. h (ap (λ (s : RuledScan). s .refusal) meets ∙ scan-tells records k .0 ∙ z)) in
       (ap (λ (s : RuledScan). s .flags) meets ∙ zeros .0 ∙ no-flags-zeros, ap (λ (s : RuledScan). s .count) meets ∙ zeros .1)

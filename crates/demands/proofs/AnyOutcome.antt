@@ -12,21 +12,20 @@ use Rattle.rules.specs.HallLine.{Band, highestBandNumber}
 use Rattle.rules.specs.Profile.{emptyProfile}
 use Rattle.rules.specs.Changes.{inserted, removed}
 use Rattle.rules.specs.Readouts.{bandReadOf}
-use Rattle.rules.specs.BoxSaysNo.{Change, leaving, saying, emptyRefusal}
+use Rattle.rules.specs.BoxSaysNo.{Change, saying, emptyRefusal}
 use Rattle.rules.specs.Calls.{emptying, inserting, removing}
 use Rattle.rules.proofs.InsertRefused.{InsertGives}
 use Rattle.rules.proofs.RemoveRefused.{RemoveGives}
 use Rattle.rules.proofs.OthersRefused.{SizesGive}
 use Rattle.hall.specs.declared.answers.Answer.{Answer}
 use Rattle.hall.specs.declared.bands.Band.{Band as GivenBand}
-use Rattle.hall.specs.Says.{answerSays}
 use Rattle.hall.specs.SaidBand.{said}
 use Rattle.store.specs.Sizes.{sizesRight}
 use Rattle.store.specs.Memory.{Memory, lengthsIn, roomIn}
 use Rattle.store.specs.SaidProfile.{saidProfile}
 use Rattle.store.specs.Sound.{sound}
 use Rattle.store.specs.ChangeIn.{changeIn}
-use Rattle.store.proofs.LentWords.{Lent, alsoGiven, lentMemory}
+use Rattle.store.proofs.LentWords.{Lent, alsoGiven, lentMemory, cameWith}
 use Rattle.store.proofs.ChangeIn.{LeavesSound, change-leaves}
 use Rattle.asking.specs.BandCall.{bandIn}
 use Rattle.asking.specs.NodeCall.{nodeIn}
@@ -49,10 +48,6 @@ use Rattle.demands.proofs.Found.{FoundWhereHeld, FoundNowhere, insert-f
 use Rattle.demands.proofs.LevelStays.{SameLevels, StandsWith, insert-level-stays, remove-level-stays, low-level-given, high-level-given}
 use Rattle.demands.proofs.Alone.{OthersStabbedAlike, insert-alone, remove-alone}
 use Rattle.demands.proofs.Local.{OtherNumbersKept, insert-local, remove-local}
-
--- what came of it: the answer's number, and the memory that is left
-abbrev pub outcome : {A : Type 0} → Answer → Lent A → Change Memory
-outcome a x = leaving (answerSays a) (lentMemory x)
 
 -- ---- making an empty profile
 
@@ -79,7 +74,7 @@ empty-outcome m =
     }
 
 pub any-empty-outcome : (κs : Lfts 3) (given left : Lent (Unit {0})) (a : Answer) → emptyPromise κs given a left
-    → EmptyOutcome (lentMemory given) (outcome a left)
+    → EmptyOutcome (lentMemory given) (cameWith a left)
 any-empty-outcome κs given left a meets = subst (EmptyOutcome (lentMemory given)) (sym meets) (empty-outcome (lentMemory given))
 
 -- ---- inserting a band
@@ -125,7 +120,7 @@ insert-outcome m b lo hi =
     }
 
 pub any-insert-outcome : (κs : Lfts 3) (given left : Lent (GivenBand × (ℕ × (ℕ × Unit {0})))) (a : Answer) → insertPromise κs given a left
-    → InsertOutcome (lentMemory given) (said (alsoGiven given .0)) (alsoGiven given .1 .0) (alsoGiven given .1 .1 .0) (outcome a left)
+    → InsertOutcome (lentMemory given) (said (alsoGiven given .0)) (alsoGiven given .1 .0) (alsoGiven given .1 .1 .0) (cameWith a left)
 any-insert-outcome κs given left a meets =
     subst (InsertOutcome (lentMemory given) (said (alsoGiven given .0)) (alsoGiven given .1 .0) (alsoGiven given .1 .1 .0)) (sym meets) (insert-outcome _ _ _ _)
 
@@ -168,6 +163,6 @@ remove-outcome m number scope =
     }
 
 pub any-remove-outcome : (κs : Lfts 3) (given left : Lent (ℕ × (ℕ × Unit {0}))) (a : Answer) → removePromise κs given a left
-    → RemoveOutcome (lentMemory given) (alsoGiven given .0) (alsoGiven given .1 .0) (outcome a left)
+    → RemoveOutcome (lentMemory given) (alsoGiven given .0) (alsoGiven given .1 .0) (cameWith a left)
 any-remove-outcome κs given left a meets =
     subst (RemoveOutcome (lentMemory given) (alsoGiven given .0) (alsoGiven given .1 .0)) (sym meets) (remove-outcome _ _ _)

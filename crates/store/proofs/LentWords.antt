@@ -10,7 +10,10 @@ use denote.Exit.{Kept, Last, see}
 use denote.RattleType.{RattleType}
 use denote.Ref.{RefT}
 use denote.Slice.{ShrSlice}
+use Rattle.rules.specs.BoxSaysNo.{Change}
+use Rattle.hall.specs.declared.answers.Answer.{Answer}
 use Rattle.store.specs.Memory.{Memory, lent}
+use Rattle.store.specs.Came.{came, Asked, asked}
 
 -- the three slices, and what else a call is given
 abbrev pub Lent : Type 0 → Type 0
@@ -23,6 +26,13 @@ alsoGiven x = x .1 .1 .1
 -- the memory that the slices are
 abbrev pub lentMemory : {A : Type 0} → Lent A → Memory
 lentMemory x = lent (x .0 .now) (x .1 .0 .now) (x .1 .1 .0 .now)
+
+-- what comes of a call that changes, and of one that asks: a is answered, or told, and the words of x stand after it
+abbrev pub cameWith : {A : Type 0} → Answer → Lent A → Change Memory
+cameWith a x = came a (x .0 .now) (x .1 .0 .now) (x .1 .1 .0 .now)
+
+abbrev pub askedWith : {A B : Type 0} → A → Lent B → Asked A
+askedWith a x = asked a (x .0 .now) (x .1 .0 .now) (x .1 .1 .0 .now)
 
 -- the words in all three are the same
 abbrev pub SameWords : {A : Type 0} → Lent A → Lent A → Type 0

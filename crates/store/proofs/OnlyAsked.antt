@@ -4,16 +4,12 @@
 use Prim.Native.Nat.{ℕ}
 use mathlib.Core.Path.{_≡_, sym, _∙_, ap}
 use mathlib.Core.List.{List}
-use Rattle.store.specs.Came.{Asked, asked}
-use Rattle.store.proofs.LentWords.{Lent, SameWords}
+use Rattle.store.specs.Came.{asked}
+use Rattle.store.proofs.LentWords.{Lent, askedWith, SameWords}
 
 -- what is due is told, and memory is as it was
 pub left-as-it-was : {A : Type 0} {a due : A} {bands nodes marks : List ℕ} → a ≡ due → asked a bands nodes marks ≡ asked due bands nodes marks
 left-as-it-was {bands = bands} {nodes = nodes} {marks = marks} e = ap (λ told. asked told bands nodes marks) e
-
--- a is told, and the words of x stand after it
-abbrev pub askedWith : {A B : Type 0} → A → Lent B → Asked A
-askedWith a x = asked a (x .0 .now) (x .1 .0 .now) (x .1 .1 .0 .now)
 
 module _ {A B : Type 0} (given x : Lent B) {a due : A} (met : askedWith a x ≡ askedWith due given) where
   pub what-was-told : a ≡ due
