@@ -1,5 +1,6 @@
--- The laws of flag words: number n is bit n mod 64 of word n div 64; the sixteen words, each below 2 ^ 64, are one to one with the
--- set of numbers below 1,024; the ones in them are the count, and that is the length of a list below 1,024 without repeats.
+-- The laws of flag words: number n is bit n mod 64 of word n div 64; any sixteen words, each below 2 ^ 64, are the words of one set of numbers below
+-- 1,024; the ones in them are what is counted a bit at a time, of a list's words the list's count, and that is the length of a list below 1,024
+-- without repeats.
 -- Each law is shown for any test of numbers and any number of bits or words, and put to 16 words and 1,024 flags last.
 -- Assumes nothing.
 use Prim.Native.Nat.{ℕ, zero, suc, _+_, _*_, _/_, _%_, _^_, _≤_, _<_}
@@ -16,8 +17,8 @@ use lib.Count.{ones, ones-step}
 use Rattle.rules.specs.Connectives.{_and_, _or_, oneIf}
 use Rattle.rules.specs.Lists.{all, sumOf, member, distinct, countFrom}
 use Rattle.rules.specs.Flags.{flagCount, flagsOf, flagAt, countOf, setFlags, bitsFrom, wordsFrom}
-use Rattle.rules.proofs.Means.{and-both, itself, lt-means, eq-means, same-means}
-use Rattle.rules.proofs.Lists.{In, Each, all-means, member-means, Distinct, distinct-means}
+use Rattle.rules.proofs.Means.{and-both, lt-means}
+use Rattle.rules.proofs.Lists.{In, Each, each-cons, all-means, member-means, Distinct, distinct-means}
 use Rattle.rules.proofs.Sums.{at-most-one, either-and-both}
 
 oneIf-one-to-one : (b c : Bool) → oneIf b ≡ oneIf c → b ≡ c
@@ -69,11 +70,10 @@ module _ (f : ℕ → Bool) where
   length-of-words j zero = refl
   length-of-words j (suc m) = ap suc (length-of-words (suc j) m)
 
-  -- past the end a word reads as 0
-  pub word-below-power : (j m i : ℕ) → getD (wordsFrom f j m) i 0 < 2 ^ 64
-  word-below-power j zero i = omega arith
-  word-below-power j (suc m) zero = bits-below-power f (j * 64) 64
-  word-below-power j (suc m) (suc i) = word-below-power (suc j) m i
+  pub words-below-power : (j m : ℕ) → Each (λ w. w < 2 ^ 64) (wordsFrom f j m)
+  words-below-power j zero = λ w stands. absurd stands
+  words-below-power j (suc m) =
+      each-cons (bitsFrom f (j * 64) 64) (wordsFrom f (suc j) m) .1 (bits-below-power f (j * 64) 64, words-below-power (suc j) m)
 
   pub bit-of-word : (j m i b : ℕ) → i < m → b < 64 → getD (wordsFrom f j m) i 0 / 2 ^ b % 2 ≡ oneIf (f ((j + i) * 64 + b))
   bit-of-word j zero i b h l = absurd (not-suc-le-zero h)
@@ -128,6 +128,50 @@ module _ (f g : ℕ → Bool) where
   bits-by-flags e n h =
       oneIf-one-to-one (f n) (g n)
       (sym (flag-of-number f n h) ∙ ap (λ (ws : List ℕ). flagAt ws n) e ∙ flag-of-number g n h)
+
+-- ---- any words below 2 ^ 64 are the words of the numbers whose flags are set in them, and their ones are those flags counted
+
+module _ (f : ℕ → Bool) where
+  word-of-its-bits : (a m x : ℕ) → x < 2 ^ m → ((i : ℕ) → i < m → x / 2 ^ i % 2 ≡ oneIf (f (a + i))) → bitsFrom f a m ≡ x
+  word-of-its-bits a zero x h told = omega arith
+  word-of-its-bits a (suc m) x h told =
+      let lowest : x % 2 ≡ oneIf (f a) = ap (λ (y : ℕ). y % 2) (sym (div-one x)) ∙ told 0 (omega arith) ∙ rw add-zero in
+      let half : x / 2 < 2 ^ m = omega (arith, pow-succ' 2 m) in
+      let rest = word-of-its-bits (suc a) m (x / 2) half (λ i l. rw (← shift-once-more, suc-add, ← add-suc) (told (suc i) (omega arith))) in
+      omega arith
+
+  words-of-their-bits : (j : ℕ) (ws : List ℕ) → Each (λ w. w < 2 ^ 64) ws
+      → ((i b : ℕ) → i < length ws → b < 64 → getD ws i 0 / 2 ^ b % 2 ≡ oneIf (f ((j + i) * 64 + b))) → wordsFrom f j (length ws) ≡ ws
+  words-of-their-bits j [] below told = refl
+  words-of-their-bits j (w ∷ ws) below told =
+      let each = each-cons w ws .0 below in
+      ap₂ (λ (x : ℕ) (xs : List ℕ). x ∷ xs)
+      (word-of-its-bits (j * 64) 64 w (each .0) (λ b l. told 0 b (omega arith) l ∙ rw add-zero))
+      (words-of-their-bits (suc j) ws (each .1) (λ i b h l. told (suc i) b (omega arith) l ∙ rw (add-suc, suc-add)))
+
+bit-as-told : (x : ℕ) → x % 2 ≡ oneIf (eqb (x % 2) 1)
+bit-as-told x = go (eqb (x % 2) 1) refl
+  where
+    go : (t : Bool) → eqb (x % 2) 1 ≡ t → x % 2 ≡ oneIf t
+    go true e = eqb-true (x % 2) 1 e
+    go false e = let not-one = eqb-false (x % 2) 1 e in omega arith
+
+module _ (ws : List ℕ) (below : Each (λ w. w < 2 ^ 64) ws) where
+  abbrev flagged : ℕ → Bool
+  flagged n = eqb (flagAt ws n) 1
+
+  pub words-of-their-flags : wordsFrom flagged 0 (length ws) ≡ ws
+  words-of-their-flags =
+      words-of-their-bits flagged 0 ws below (λ i b h l.
+      let word : ((0 + i) * 64 + b) / 64 ≡ i = omega arith in
+      let bit : ((0 + i) * 64 + b) % 64 ≡ b = omega arith in
+      rw (word, bit) (bit-as-told (getD ws i 0 / 2 ^ b)))
+
+  -- the ones of sixteen words are what is counted a bit at a time, number after number
+  pub ones-bit-at-a-time : length ws ≡ 16 → sumOf ones ws ≡ setFlags ws
+  unfolding setFlags
+  ones-bit-at-a-time sixteen =
+      ap (sumOf ones) (sym words-of-their-flags ∙ ap (wordsFrom flagged 0) sixteen) ∙ ones-are-the-count flagged
 
 -- ---- a list of numbers is counted number by number
 
@@ -209,9 +253,9 @@ module _ (ns : List ℕ) where
   unfolding flagsOf
   flags-length = length-of-words (λ n. member n ns) 0 16
 
-  pub flag-word-below-power : (i : ℕ) → getD (flagsOf ns) i 0 < 2 ^ 64
+  pub flag-words-below-power : Each (λ w. w < 2 ^ 64) (flagsOf ns)
   unfolding flagsOf
-  flag-word-below-power = word-below-power (λ n. member n ns) 0 16
+  flag-words-below-power = words-below-power (λ n. member n ns) 0 16
 
   pub flag-of-member : (n : ℕ) → n < 1024 → flagAt (flagsOf ns) n ≡ oneIf (member n ns)
   unfolding flagsOf
@@ -262,13 +306,10 @@ pub count-of-nothing : countOf [] ≡ 0
 unfolding countOf
 count-of-nothing = count-of-none (λ n. false) (λ n. refl) 0 1024
 
--- a flag is set exactly for a number of the list
-set-for-member : (ns : List ℕ) (n : ℕ) → n < flagCount → member n ns ≡ eqb (flagAt (flagsOf ns) n) 1
-set-for-member ns n h =
-    let e = flag-set-for-member ns n h in same-means (itself (member n ns)) (eq-means (flagAt (flagsOf ns) n) 1) (e .1) (e .0)
-
 -- the flags of a list of numbers that are set are as many as the count of the list
 pub set-flags-counted : (ns : List ℕ) → countOf ns ≡ setFlags (flagsOf ns)
-unfolding setFlags countOf
-set-flags-counted ns =
-    counts-agree (λ n. member n ns) (λ n. eqb (flagAt (flagsOf ns) n) 1) flagCount (set-for-member ns) 0 flagCount (omega arith)
+set-flags-counted ns = sym (ones-of-flags ns) ∙ ones-bit-at-a-time (flagsOf ns) (flag-words-below-power ns) (flags-length ns)
+
+pub set-flags-at-most-all : (ws : List ℕ) → setFlags ws ≤ flagCount
+unfolding setFlags
+set-flags-at-most-all ws = count-at-most (λ n. eqb (flagAt ws n) 1) 0 flagCount

@@ -40,6 +40,6 @@ flagAt ws n = getD ws (n / bitsPerWord) 0 / 2 ^ (n % bitsPerWord) % 2
 unfoldable pub countOf : List ℕ → ℕ
 countOf ns = countFrom (λ n. member n ns) 0 flagCount
 
--- how many of the flags of numbers 0 to 1,023 are set
+-- how many of the flags of numbers 0 to 1,023 are set, counted a bit at a time
 unfoldable pub setFlags : List ℕ → ℕ
 setFlags words = countFrom (λ n. eqb (flagAt words n) 1) 0 flagCount
