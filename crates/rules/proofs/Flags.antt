@@ -1,6 +1,5 @@
--- The laws of flag words: number n is bit n mod 64 of word n div 64; any sixteen words, each below 2 ^ 64, are the words of one set of numbers below
--- 1,024; the ones in them are what is counted a bit at a time, of a list's words the list's count, and that is the length of a list below 1,024
--- without repeats.
+-- The laws of flag words: number n is bit n mod 64 of word n div 64; sixteen words, each below 2 ^ 64, are those of exactly one set of numbers
+-- below 1,024; the ones in them are the count of that set, which is the length of a list of such numbers without repeats.
 -- Each law is shown for any test of numbers and any number of bits or words, and put to 16 words and 1,024 flags last.
 -- Assumes nothing.
 use Prim.Native.Nat.{ℕ, zero, suc, _+_, _*_, _/_, _%_, _^_, _≤_, _<_}
@@ -129,7 +128,7 @@ module _ (f g : ℕ → Bool) where
       oneIf-one-to-one (f n) (g n)
       (sym (flag-of-number f n h) ∙ ap (λ (ws : List ℕ). flagAt ws n) e ∙ flag-of-number g n h)
 
--- ---- any words below 2 ^ 64 are the words of the numbers whose flags are set in them, and their ones are those flags counted
+-- ---- any words below 2 ^ 64 are the words of the numbers whose flags are set in them
 
 module _ (f : ℕ → Bool) where
   word-of-its-bits : (a m x : ℕ) → x < 2 ^ m → ((i : ℕ) → i < m → x / 2 ^ i % 2 ≡ oneIf (f (a + i))) → bitsFrom f a m ≡ x
@@ -156,22 +155,26 @@ bit-as-told x = go (eqb (x % 2) 1) refl
     go true e = eqb-true (x % 2) 1 e
     go false e = let not-one = eqb-false (x % 2) 1 e in omega arith
 
-module _ (ws : List ℕ) (below : Each (λ w. w < 2 ^ 64) ws) where
-  abbrev flagged : ℕ → Bool
-  flagged n = eqb (flagAt ws n) 1
+abbrev flagged : List ℕ → ℕ → Bool
+flagged ws n = eqb (flagAt ws n) 1
 
-  pub words-of-their-flags : wordsFrom flagged 0 (length ws) ≡ ws
+module _ (ws : List ℕ) (below : Each (λ w. w < 2 ^ 64) ws) where
+  pub words-of-their-flags : wordsFrom (flagged ws) 0 (length ws) ≡ ws
   words-of-their-flags =
-      words-of-their-bits flagged 0 ws below (λ i b h l.
+      words-of-their-bits (flagged ws) 0 ws below (λ i b h l.
       let word : ((0 + i) * 64 + b) / 64 ≡ i = omega arith in
       let bit : ((0 + i) * 64 + b) % 64 ≡ b = omega arith in
       rw (word, bit) (bit-as-told (getD ws i 0 / 2 ^ b)))
 
-  -- the ones of sixteen words are what is counted a bit at a time, number after number
+  -- so the ones of sixteen words are what is counted a bit at a time
   pub ones-bit-at-a-time : length ws ≡ 16 → sumOf ones ws ≡ setFlags ws
   unfolding setFlags
   ones-bit-at-a-time sixteen =
-      ap (sumOf ones) (sym words-of-their-flags ∙ ap (wordsFrom flagged 0) sixteen) ∙ ones-are-the-count flagged
+      ap (sumOf ones) (sym words-of-their-flags ∙ ap (wordsFrom (flagged ws) 0) sixteen) ∙ ones-are-the-count (flagged ws)
+
+pub set-flags-at-most-all : (ws : List ℕ) → setFlags ws ≤ flagCount
+unfolding setFlags
+set-flags-at-most-all ws = count-at-most (flagged ws) 0 flagCount
 
 -- ---- a list of numbers is counted number by number
 
@@ -309,7 +312,3 @@ count-of-nothing = count-of-none (λ n. false) (λ n. refl) 0 1024
 -- the flags of a list of numbers that are set are as many as the count of the list
 pub set-flags-counted : (ns : List ℕ) → countOf ns ≡ setFlags (flagsOf ns)
 set-flags-counted ns = sym (ones-of-flags ns) ∙ ones-bit-at-a-time (flagsOf ns) (flag-words-below-power ns) (flags-length ns)
-
-pub set-flags-at-most-all : (ws : List ℕ) → setFlags ws ≤ flagCount
-unfolding setFlags
-set-flags-at-most-all ws = count-at-most (λ n. eqb (flagAt ws n) 1) 0 flagCount
