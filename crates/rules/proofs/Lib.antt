@@ -25,6 +25,8 @@ pub mod OthersRefused
 pub mod RuledCalls
 pub mod SoundMemory
 pub mod BenchCard
+pub mod TrailingZeros
+pub mod Wheel
 pub mod Reach
 pub mod BenchTable
 pub mod Theory

@@ -20,6 +20,7 @@ use Rattle.rules.specs.Room.{Room}
 use Rattle.rules.specs.SoundMemory.{soundIn}
 use Rattle.rules.specs.BoxSaysNo.{stabAnswer, bandReadAnswer, edgeReadAnswer, nodeReadAnswer, roomReadAnswer}
 use Rattle.rules.specs.BenchCard.{scanOf}
+use Rattle.rules.specs.Wheel.{turnAnswer}
 use Rattle.rules.specs.Calls.{Call}
 use Rattle.rules.specs.Reach.{answersAlike, reachOf, keepsOutsideReaches, ofCall}
 use Rattle.rules.specs.BenchProfile.{callOf}
@@ -71,6 +72,9 @@ pub data Row : Type 0 where
   alike : Profile → Profile → ℕ → Bool → Row
   -- the bench card of these bands, asked for a key: refusal, place, numbers flagged
   card : List Band → ℕ → ℕ → ℕ → List ℕ → Row
+  -- the wheel's place gives the level and the next place; or is refused by the number, with zeros
+  turns : ℕ → ℕ → ℕ → Row
+  noTurn : ℕ → ℕ → Row
 
 abbrev pub sameBands : List Band → List Band → Bool
 sameBands [] [] = true
@@ -145,6 +149,12 @@ inUseIs sizesRight p refusal n m =
     and eqb (roomReadAnswer sizesRight p .read .nodes) n
     and eqb (roomReadAnswer sizesRight p .read .marks) m
 
+abbrev pub turnIs : ℕ → ℕ → ℕ → ℕ → Bool
+turnIs place refusal level next =
+    eqb (turnAnswer place .refusal) refusal
+    and eqb (turnAnswer place .read .level) level
+    and eqb (turnAnswer place .read .next) next
+
 -- the rules answer as expected
 abbrev pub rowRight : Row → Bool
 rowRight (gives given expected) = eqb given expected
@@ -185,6 +195,8 @@ rowRight (card bs k number place ns) =
     and eqb (scanOf bs k .place) place
     and sameNumbers (scanOf bs k .flags) (flagsOf ns)
     and eqb (scanOf bs k .count) (length ns)
+rowRight (turns place level next) = turnIs place 0 level next
+rowRight (noTurn place refusal) = turnIs place refusal 0 0
 
 -- the places of the rows that are not right, counted from 1
 abbrev pub wrongFrom : ℕ → List Row → List ℕ

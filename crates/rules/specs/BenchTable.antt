@@ -11,7 +11,7 @@ use Rattle.rules.specs.Room.{roomOf}
 use Rattle.rules.specs.BoxSaysNo.{bandFault, stabRefusal}
 use Rattle.rules.specs.Calls.{emptying, inserting, removing}
 use Rattle.rules.specs.BenchProfile.{closed, openLow, openHigh, open′, callOf, wide, bench, p9, tall, twins, beside, lifted, middle, high, first, firstOpen, mixed, around, bench260, bench300, nextTo, mapped, remapped}
-use Rattle.rules.specs.BenchRow.{Row, gives, says, held, is, sound, marks, lane, walked, stab, meets, noStab, band, noBand, edge, noEdge, node, noNode, inUse, noInUse, accepted, refused, runs, near, alike, card}
+use Rattle.rules.specs.BenchRow.{Row, gives, says, held, is, sound, marks, lane, walked, stab, meets, noStab, band, noBand, edge, noEdge, node, noNode, inUse, noInUse, accepted, refused, runs, near, alike, card, turns, noTurn}
 
 -- The bench profile itself, P1 to P10, and what each leaves.
 abbrev pub benchRows : List Row
@@ -349,7 +349,23 @@ cardRows =
     ∷ card (closed 0 house 3 9 ∷ closed 0 house 3 9 ∷ []) 5 8 2 []
     ∷ []
 
+-- The wheel of levels: where its rule changes, at both its ends, and off them.
+abbrev pub wheelRows : List Row
+wheelRows =
+    turns 1 1 2
+    ∷ turns 2 2 3
+    ∷ turns 4 3 5
+    ∷ turns 12 3 13
+    ∷ turns 64 7 65
+    ∷ turns 128 8 129
+    ∷ turns 256 8 257
+    ∷ turns 1023 1 1024
+    ∷ turns 1024 8 1
+    ∷ noTurn 0 7
+    ∷ noTurn 1025 7
+    ∷ []
+
 -- the one table
 abbrev pub table : List Row
 table =
-    benchRows ++ errorRows ++ keyRows ++ readRows ++ refusalRows ++ acceptedRows ++ soundRows ++ reachRows ++ cardRows
+    benchRows ++ errorRows ++ keyRows ++ readRows ++ refusalRows ++ acceptedRows ++ soundRows ++ reachRows ++ cardRows ++ wheelRows

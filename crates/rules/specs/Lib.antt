@@ -9,6 +9,8 @@
 --   "What one call can reach"              Reach
 --   "The bench profile"                    BenchProfile, BenchRow, BenchTable
 --   "Errors that look right"               BenchTable
+-- and what was requested after it:
+--   "A wheel of levels"                    Wheel
 -- Connectives and Lists have the plain tests that they are worded with. Staircase is not the paper's: it has one band's marks slot by slot,
 -- and the walk by which code finds them. What the paper says of words in memory (places, which of them are
 -- free, the likeness of two memories) is not here: these rules know no memory.
@@ -31,6 +33,7 @@ pub mod BoxSaysNo
 pub mod RuledCalls
 pub mod SoundMemory
 pub mod BenchCard
+pub mod Wheel
 pub mod Reach
 pub mod BenchProfile
 pub mod BenchRow
