@@ -3,6 +3,7 @@ use desk_answers::Told;
 use desk_lines::Command;
 use hall::Answer;
 use hall::Key;
+use wheel::Place;
 
 // An insert's fourth and fifth words are its levels; a remove's first and second are number and scope.
 pub(crate) fn change(
@@ -26,6 +27,13 @@ pub(crate) fn change(
     }
 }
 
+// The wheel is lent no word.
+fn turn(place: Place) -> Told {
+    let turned = wheel::turn(place);
+    let answer = turned.answer;
+    desk_answers::turn_answer(answer, turned.level, turned.next.0)
+}
+
 pub(crate) fn ask(command: Command, bands: &[u32], nodes: &[u32], marks: &[u32]) -> Told {
     let which = command.which;
     let number = command.first;
@@ -37,6 +45,7 @@ pub(crate) fn ask(command: Command, bands: &[u32], nodes: &[u32], marks: &[u32])
         b'e' => desk_answers::edge_answer(asking::edge(bands, nodes, marks, key, lane)),
         b'n' => desk_answers::node_answer(asking::node(bands, nodes, marks, key)),
         b'r' => desk_answers::room_answer(asking::room(bands, nodes, marks)),
+        b'w' => turn(Place(number)),
         _ => desk_answers::check_answer(checking::check(bands, nodes, marks)),
     }
 }

@@ -163,3 +163,12 @@ pub fn room_answer(read: RoomRead) -> Told {
     );
     unless_refused(answer, told)
 }
+
+// The level at a place of the wheel, and the next place.
+pub fn turn_answer(answer: Answer, level: u32, next: u32) -> Told {
+    let told = plain(
+        *b"0 level # next #\n.                      ",
+        words(level, next, 0),
+    );
+    unless_refused(answer, told)
+}

@@ -18,5 +18,6 @@ pub use answers::number_answer;
 pub use answers::room_answer;
 pub use answers::scan_answer;
 pub use answers::stab_answer;
+pub use answers::turn_answer;
 pub use forms::Told;
 pub use telling::tell;

@@ -19,7 +19,7 @@ const NAMES: usize = FAULTS + FAULT_WIDTH * FAULT_COUNT;
 
 // A row for each refusal, in the order of the paper's numbers, with its number before its words. Then one for each fault, in the order of its numbers in
 // `desk_lines`. Then the names, as help tells them: each once, a command that is said in two words by its first.
-const TEXTS: [u8; NAMES + 95] = *b"\
+const TEXTS: [u8; NAMES + 101] = *b"\
     0  done.                                           \
     1  sizes are out of range, or memory is not sound. \
     2  scope above 64.                                 \
@@ -27,7 +27,7 @@ const TEXTS: [u8; NAMES + 95] = *b"\
     4  key above 2097151.                              \
     5  band holds no whole key.                        \
     6  an end is not among the machine's keys.         \
-    7  level not 1 to 8.                               \
+    7  level not 1 to 8, or wheel place not 1 to 1024. \
     8  number is live.                                 \
     9  number is not live.                             \
     10 the band's scope is another.                    \
@@ -48,7 +48,7 @@ const TEXTS: [u8; NAMES + 95] = *b"\
     11 no such memory.         \
     12 no such word.           \
     13 card full.              \
-    memory lengths fill poke peek sum empty insert remove stab check band edge node room card help.";
+    memory lengths fill poke peek sum empty insert remove stab check band edge node room wheel card help.";
 
 // Where the text starts that a byte of a form stands for, beside a value.
 fn start_of(byte: u8, number: u8) -> usize {

@@ -1,7 +1,7 @@
 // The table of commands: a row each.
 use crate::words;
 
-pub const ROW_COUNT: u32 = 19;
+pub const ROW_COUNT: u32 = 20;
 
 // A row has three parts of so many bytes: the name; where the command is said in two words the second; and letters.
 const PART_WIDTH: usize = 8;
@@ -37,6 +37,7 @@ const ROWS: [u8; PART_WIDTH * PARTS * ROW_COUNT as usize] = *b"\
     edge            kn    ae\
     node            k     an\
     room                  ar\
+    wheel           n     aw\
     card    clear         bc\
     card    add     nn[   ba\
     card    scan    k     bs\

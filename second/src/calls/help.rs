@@ -13,4 +13,4 @@ pub static HELP: Form = Form {
 };
 
 const NAMES: &str = "0 memory lengths fill poke peek sum empty insert remove stab check \
-                     band edge node room card help";
+                     band edge node room wheel card help";

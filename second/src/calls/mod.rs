@@ -14,6 +14,7 @@ pub mod reading;
 pub mod remove;
 pub mod room;
 pub mod stab;
+pub mod wheel;
 
 use crate::desk::form::Form;
 
@@ -34,6 +35,7 @@ pub const FORMS: &[&Form] = &[
     &edge::EDGE,
     &node::NODE,
     &room::ROOM,
+    &wheel::WHEEL,
     &card::CLEAR,
     &card::ADD,
     &card::SCAN,

@@ -103,7 +103,7 @@ fn word_of(sort: Sort, word: &[u8]) -> Result<Word, Wrong> {
             b"marks" => Ok(Word::Slice(Slice::Marks)),
             _ => Err(NOT_A_SLICE),
         },
-        Sort::Number | Sort::BandNumber | Sort::Scope | Sort::Level | Sort::Lane => {
+        Sort::Number | Sort::BandNumber | Sort::Scope | Sort::Level | Sort::Lane | Sort::Place => {
             number(word).map(Word::Number)
         }
     }
@@ -115,7 +115,7 @@ pub fn wrongs_of(sort: Sort) -> &'static [Wrong] {
         Sort::Key => &[NOT_A_KEY, NO_SUCH_KEY, TOO_HIGH],
         Sort::Stretch => &[NOT_A_STRETCH, NOT_A_KEY, NO_SUCH_KEY, TOO_HIGH],
         Sort::Slice => &[NOT_A_SLICE],
-        Sort::Number | Sort::BandNumber | Sort::Scope | Sort::Level | Sort::Lane => {
+        Sort::Number | Sort::BandNumber | Sort::Scope | Sort::Level | Sort::Lane | Sort::Place => {
             &[NOT_A_NUMBER, TOO_HIGH]
         }
     }

@@ -5,7 +5,7 @@ use std::borrow::Cow;
 use std::fmt;
 
 /// What an answer shows, as the tally counts it: its first word, or one ground of several, or
-/// all that is wrong with a line.
+/// one of a few things told, or all that is wrong with a line.
 pub type Sight = Cow<'static, str>;
 
 /// What is foreseen of one line.
@@ -48,7 +48,7 @@ impl Foreseen {
 
     /// Whether a call is done.
     pub fn is_done(&self) -> bool {
-        matches!(self, Foreseen::Exactly(_, sight) if sight == "0")
+        matches!(self, Foreseen::Exactly(answer, _) if answer.split(' ').next() == Some("0"))
     }
 
     /// Whether a line that was written is as foreseen.

@@ -19,6 +19,8 @@ pub enum Sort {
     Level,
     /// A lane.
     Lane,
+    /// A place on the wheel.
+    Place,
     /// A key, as a number or by machine, sensor and reading.
     Key,
     /// A stretch.

@@ -28,21 +28,23 @@ const ODD_LINES: &[u8] =
 |##|# \xff \0 \x80|#\r|#\r\r# carriage returns\r\
 |Check|CHECK|checK|checks|chec|c|check.|check,|check;|check#|check()|-check|/check|?|0|5|quit\
 |exit|bands|nodes|marks|STAB 5|stab5|stab:5|stab=5 6|insert[1,2]|Memory 5 5|yes|clear\
+|Wheel 1|wheels 1|whee 1|wheel1|wheel:1|wheel.\
 |add 1 64 [1,2]|scan 5|cards clear|Card clear|card:clear|cardclear|card Clear|card clea\
 |card cleared|card adds 1 64 [1,2]|card scan:5|card 5|card # a remark|card card clear\
 |card xyz 1 64 [1,2] 1 1|card \r\r|card scan\r 5|helped me x y z|\r\r|\rcheck|che\rck|check\r\r\
 |check\rcheck|\0|check\0|\0check|\xff\xfe|check\xc2\xa0|\x0bcheck\x0c\
 |check \r\r|check \r |sum\t\xff|room \0|empty # no remark here|stab 5\r\r|stab 5\r |fill 5\r\r\
 |fill \x0b5|peek bands\r 5|stab 5\xc2\xa06|stab|card|\tcard \t |card\r|card clear \0\
-|card scan 5\r\r|card add 1 64 [1,2]\r\r\
+|card scan 5\r\r|card add 1 64 [1,2]\r\r|wheel 1\r\r|wheel 1 \r 2\
 |\tcheck|check\t|   check   |check\r|check \r| \t room \t \r|help|help\r|\thelp |remove\t700\t64\
 |remove  700 \t 0064\r|card clear|card\tclear| card  \t clear \r|\tcard\tscan\t5\r\
 |card   scan 0:0:5 |sum | empty|peek\tnodes\t1|poke bands 8191 9|peek bands 8191\
-|poke bands 8192 0|fill 000\
+|poke bands 8192 0|fill 000|wheel \t 01024\r\
 |memory 4294967296|memory x|memory 9999|memory 9999 9999 9999|lengths 1:2 0|lengths 9999 99999\
 |poke x|poke band 4294967296|poke bands x|poke bands 99999|peek marks 99999 x|insert 1 x [100\
 |insert 1 64 [100, 400] 1 1|insert 1 64 [100,x] y|insert 1 64 [64:0:0,400] 4294967296 1 1\
 |remove 4294967296|edge 64:0:0|edge x 4294967296 1|edge 5 4294967296 1|stab 0:0:4294967296 x\
+|wheel 4294967296 1\
 |card clear 5 x|card add x|card add 4294967296|card add 1 [1,2]|card add 1 x [100\
 |card add 1 64 [100, 400]|card add 1 64 [64:0:0,x] 1|card add 1 64 [1,2] 1 1|card scan 64:0:0 x";
 

@@ -18,6 +18,7 @@ mod spoiled_words;
 pub mod spoiling;
 pub mod telling;
 mod unsound;
+mod wheel;
 pub mod writer;
 mod wrong_lengths;
 mod wrong_words;
@@ -34,6 +35,7 @@ pub const KINDS: &[Kind] = &[
     spoiled_words::KIND,
     wrong_lengths::KIND,
     bench_card::KIND,
+    wheel::KIND,
     console::KIND,
     lumps::KIND,
 ];

@@ -43,7 +43,9 @@ pub fn odd_words(sort: Sort) -> impl Iterator<Item = &'static [u8]> {
         Sort::Slice => SLICES,
         Sort::Key => KEYS,
         Sort::Stretch => STRETCHES,
-        Sort::Number | Sort::BandNumber | Sort::Scope | Sort::Level | Sort::Lane => NUMBERS,
+        Sort::Number | Sort::BandNumber | Sort::Scope | Sort::Level | Sort::Lane | Sort::Place => {
+            NUMBERS
+        }
     };
     words.split(|&byte| byte == b' ')
 }
@@ -54,7 +56,7 @@ pub fn right_word(dice: &mut Dice, sort: Sort) -> Vec<u8> {
         Sort::Slice => &[b"bands", b"nodes", b"marks"],
         Sort::Key => &[b"0", b"2097151", b"2097152", b"4294967295", b"2:3:5", b"63:31:1023"],
         Sort::Stretch => &[b"[100,400]", b"(2:3:5,7)", b"[9,4294967295)", b"(7,0:0:7]"],
-        Sort::Number | Sort::BandNumber | Sort::Scope | Sort::Level | Sort::Lane => {
+        Sort::Number | Sort::BandNumber | Sort::Scope | Sort::Level | Sort::Lane | Sort::Place => {
             &[b"0", b"1", b"64", b"007", b"9999", b"4294967295"]
         }
     };

@@ -57,7 +57,7 @@ fn write(writer: &mut Writer, _: u64) {
 }
 
 /// Lengths and rooms of wrong sizes that the desk has words for.
-fn wrong_ones(nodes: u32, marks: u32) -> Vec<Command> {
+pub fn wrong_ones(nodes: u32, marks: u32) -> Vec<Command> {
     let right = 20 * (nodes + 1);
     let bands = [0, 1, 8, 8_184, 8_191, 8_193, 8_200];
     let low = [0, 1, 19, 20, 21, 39, 41, 59];

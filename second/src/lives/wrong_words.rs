@@ -7,6 +7,7 @@ use crate::dice::Dice;
 use crate::paper::band::{Stretch, HIGHEST_NUMBER, HOUSE};
 use crate::paper::hall::{HIGHEST_KEY, KEYS_PER_MACHINE};
 use crate::paper::lanes::{HIGHEST_LEVEL, LANES};
+use crate::paper::wheel::PLACES;
 
 /// Scopes that are neither a machine nor the house.
 const HIGH_SCOPES: [u32; 6] = [HOUSE + 1, HOUSE + 2, 256, 256 + HOUSE, 1 << 16, u32::MAX];
@@ -16,6 +17,9 @@ const HIGH_NUMBERS: [u32; 5] = [HIGHEST_NUMBER + 1, HIGHEST_NUMBER + 2, 1 << 16,
 pub const HIGH_KEYS: [u32; 5] = [HIGHEST_KEY + 1, HIGHEST_KEY + 2, 1 << 24, 1 << 31, u32::MAX];
 const NO_LEVELS: [u32; 6] = [0, HIGHEST_LEVEL + 1, 10, 256, 257, u32::MAX];
 const NO_LANES: [u32; 4] = [LANES, LANES + 1, 256, u32::MAX];
+/// Places that are not on the wheel.
+pub const NO_PLACES: [u32; 8] =
+    [0, PLACES + 1, PLACES + 2, 2 * PLACES, 1 << 16, (1 << 16) + 1, (1 << 31) + 1, u32::MAX];
 
 /// The call as it is, and once in so many times spoiled.
 pub fn spoiled_once_in(times: u32, dice: &mut Dice, call: Command) -> Command {
@@ -55,6 +59,7 @@ fn spoil(dice: &mut Dice, call: &mut Command) {
         }),
         (Sort::Level, _) => Word::Number(dice.pick(&NO_LEVELS)),
         (Sort::Lane, _) => Word::Number(dice.pick(&NO_LANES)),
+        (Sort::Place, _) => Word::Number(dice.pick(&NO_PLACES)),
         (Sort::Key, _) => Word::Key(dice.pick(&HIGH_KEYS)),
         (_, Word::Stretch(stretch)) => Word::Stretch(spoiled_stretch(dice, stretch)),
         (_, other) => other,

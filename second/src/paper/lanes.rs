@@ -1,6 +1,6 @@
 //! Nodes and the lanes they take part in ("Nodes, lanes, edges").
 
-use super::refusals::{refuse_when, Refusal, WRONG_LEVEL};
+use super::refusals::{refuse_when, Refusal, WRONG_LEVEL_OR_PLACE};
 use std::collections::BTreeMap;
 
 /// Lanes are 0 to 7.
@@ -48,7 +48,7 @@ pub fn is_level(level: u32) -> bool {
     (1..=HIGHEST_LEVEL).contains(&level)
 }
 
-/// Rule 7.
+/// Rule 7 for a level.
 pub fn judge_level(level: u32) -> Result<(), Refusal> {
-    refuse_when(!is_level(level), WRONG_LEVEL)
+    refuse_when(!is_level(level), WRONG_LEVEL_OR_PLACE)
 }

@@ -21,8 +21,9 @@ pub const KEY_TOO_HIGH: Refusal = Refusal("4 key above 2097151");
 pub const NO_WHOLE_KEY: Refusal = Refusal("5 band holds no whole key");
 /// An end of a machine's band is not that machine's key.
 pub const END_OUT_OF_SCOPE: Refusal = Refusal("6 an end is not among the machine's keys");
-/// A given level is none.
-pub const WRONG_LEVEL: Refusal = Refusal("7 level not 1 to 8");
+/// A given level is none, or a place on the wheel is.
+pub const WRONG_LEVEL_OR_PLACE: Refusal =
+    Refusal("7 level not 1 to 8, or wheel place not 1 to 1024");
 /// The number is taken by a live band, or by an earlier record of the card.
 pub const NUMBER_TAKEN: Refusal = Refusal("8 number is live");
 /// No live band has the number.

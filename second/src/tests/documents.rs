@@ -1,12 +1,15 @@
 //! The model says what the documents say: the answers that stand in `examples` and beside the
 //! desk, the words of `docs/MEMORY.md`, and the tables of `docs/DESK.md`.
 
-use crate::calls::reading::line;
+use crate::calls::reading::{line, read, Read};
 use crate::calls::FORMS;
 use crate::desk::foreseen::Foreseen;
 use crate::desk::foreseer::Foreseer;
+use crate::desk::form::numbers;
 use crate::drive::tally::expected;
 use crate::memory::words::Slice;
+use crate::paper::refusals::*;
+use crate::paper::wheel::turned;
 use std::collections::BTreeSet;
 use std::path::{Path, PathBuf};
 
@@ -46,6 +49,39 @@ fn the_examples_are_answered_as_they_are_written() {
         let answers: Vec<&[u8]> = lines.filter_map(|line| line.strip_prefix(b"#> ")).collect();
         assert_foreseen(&text, &answers);
     }
+}
+
+/// Every band takes two levels, the low end's first, and one that is refused leaves them to
+/// the next.
+#[test]
+fn the_morning_takes_every_level_from_the_wheel_in_turn() {
+    let text = text_of(&in_repository("examples/morning.desk"));
+    let mut desk = Foreseer::new();
+    let (mut place, mut told, mut bands) = (1, Vec::new(), 0);
+    for line in text.split(|&byte| byte == b'\n') {
+        let Read::Command(command) = read(line) else {
+            continue;
+        };
+        let is_done = command.foresee(&mut desk).is_done();
+        match command.form.name {
+            "wheel" => {
+                assert_eq!(numbers(&command.words), [place], "{}", line.escape_ascii());
+                let turn = turned(place).expect("a place");
+                told.push(turn.level);
+                place = turn.next;
+            }
+            "insert" => {
+                let [_, _, low, high] = numbers(&command.words);
+                assert!(told.starts_with(&[low, high]), "{}", line.escape_ascii());
+                if is_done {
+                    told.drain(..2);
+                    bands += 1;
+                }
+            }
+            _ => {}
+        }
+    }
+    assert!(bands >= 10, "{bands} bands");
 }
 
 #[test]
@@ -113,4 +149,24 @@ fn what_can_be_wrong_with_a_line_is_what_the_table_says() {
     let ours: BTreeSet<&str> = ours.filter(|answer| answer.starts_with('?')).collect();
     let theirs = first_codes("What is wrong with a line\n");
     assert_eq!(ours, theirs.iter().map(String::as_str).collect());
+}
+
+#[test]
+fn refusals_are_told_in_the_words_of_the_table() {
+    let ours = [
+        SIZES_OR_NOT_SOUND,
+        SCOPE_TOO_HIGH,
+        NUMBER_TOO_HIGH,
+        KEY_TOO_HIGH,
+        NO_WHOLE_KEY,
+        END_OUT_OF_SCOPE,
+        WRONG_LEVEL_OR_PLACE,
+        NUMBER_TAKEN,
+        NUMBER_NOT_LIVE,
+        SCOPE_IS_ANOTHER,
+        NODES_EXCEED,
+        MARKS_EXCEED,
+        NO_NODE_OR_LANE,
+    ];
+    assert_eq!(ours.map(|refusal| refusal.to_string()).to_vec(), first_codes("Refusals\n"));
 }

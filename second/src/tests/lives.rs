@@ -1,15 +1,17 @@
 //! What the lives must meet, all by what is foreseen of them.
 
-use crate::calls::reading::line;
+use crate::calls::reading::{line, read, Read};
 use crate::desk::foreseen::Foreseen;
 use crate::desk::foreseer::Foreseer;
-use crate::desk::script::Script;
+use crate::desk::form::numbers;
+use crate::desk::script::{Line, Script};
 use crate::drive::cutting::foresee_anew;
 use crate::drive::sessions::{afresh, sessions};
 use crate::drive::tally::{expected, Tally};
 use crate::lives::kind::Kind;
 use crate::lives::spoiling::{all_spots, sort_of};
 use crate::lives::KINDS;
+use crate::paper::wheel::PLACES;
 use std::collections::BTreeSet;
 
 /// Every kind whose lives are made in no time.
@@ -131,6 +133,20 @@ fn words_of_every_sort_are_spoiled_in_every_script() {
         });
         let (bands, header, nodes, marks) = (2 * 8, 20, 2 * 20, 2);
         assert_eq!(spoiled.len(), bands + header + nodes + marks);
+    }
+}
+
+#[test]
+fn the_wheel_is_asked_for_every_place_in_order_in_every_script() {
+    let place = |line: Line| match read(&line.text) {
+        Read::Command(command) if command.form.name == "wheel" => Some(numbers(&command.words)),
+        _ => None,
+    };
+    let round: Vec<[u32; 1]> = (1..=PLACES).chain([1]).map(|place| [place]).collect();
+    for seed in 0..4 {
+        let asked: Vec<[u32; 1]> =
+            script("wheel", seed).lines.into_iter().filter_map(place).collect();
+        assert!(asked.windows(round.len()).any(|places| places == round));
     }
 }
 

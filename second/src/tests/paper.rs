@@ -1,5 +1,6 @@
-//! The model is held to the paper's sentences, each in one piece and by trying everything,
-//! over the changes of some lives: "Marks", "The search" and "What one call can reach".
+//! The model is held to the paper's sentences, each in one piece and by trying everything:
+//! "Marks", "The search" and "What one call can reach" over the changes of some lives, and the
+//! wheel of levels over all of it.
 
 use crate::calls::reading::line;
 use crate::desk::foreseer::Foreseer;
@@ -10,7 +11,9 @@ use crate::paper::hall::{is_key_of, HIGHEST_KEY};
 use crate::paper::lanes::{Nodes, LANES};
 use crate::paper::marks::{Mark, Slot};
 use crate::paper::profile::Profile;
+use crate::paper::refusals::WRONG_LEVEL_OR_PLACE;
 use crate::paper::search::{looks, marks_taken};
+use crate::paper::wheel::turned;
 use std::collections::BTreeSet;
 
 /// The profiles before and after each accepted change of a few lives, and its band.
@@ -163,4 +166,43 @@ fn a_machines_call_changes_no_answer_at_another_machine_but_looks() {
             }
         }
     });
+}
+
+/// One more than the trailing zero bits, which are counted as they are written, and 8 where
+/// that would be more.
+fn level_by_bits(number: u32) -> usize {
+    let bits = format!("{number:b}");
+    let zeros = bits.len() - bits.trim_end_matches('0').len();
+    (zeros + 1).min(8)
+}
+
+#[test]
+fn the_wheel_goes_by_its_rule_once_round_and_on() {
+    let mut place = 1;
+    for number in 1..=5_000 {
+        assert_eq!(place, (number - 1) % 1_024 + 1);
+        let turn = turned(place).expect("a place");
+        assert_eq!(turn.level as usize, level_by_bits(place), "place {place}");
+        // What is carried on past the last place is the rule again.
+        assert_eq!(turn.level as usize, level_by_bits(number), "number {number}");
+        place = turn.next;
+    }
+}
+
+#[test]
+fn half_the_wheel_is_of_level_1_and_each_next_level_has_half_as_many() {
+    let mut places = [0; 8];
+    for place in 1..=1_024 {
+        places[turned(place).expect("a place").level as usize - 1] += 1;
+    }
+    assert_eq!(places, [512, 256, 128, 64, 32, 16, 8, 8]);
+}
+
+#[test]
+fn the_wheel_refuses_every_other_place_by_7() {
+    let high = (1_025..70_000).chain(u32::MAX - 70_000..=u32::MAX);
+    for place in [0].into_iter().chain(high) {
+        assert_eq!(turned(place), Err(WRONG_LEVEL_OR_PLACE), "{place}");
+    }
+    assert_eq!(WRONG_LEVEL_OR_PLACE.number(), "7");
 }

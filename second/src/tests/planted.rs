@@ -8,6 +8,7 @@ use crate::calls::insert::insert;
 use crate::calls::lending::{memory, poke};
 use crate::calls::reading::Read;
 use crate::calls::stab::told;
+use crate::calls::wheel;
 use crate::desk::foreseen::Foreseen;
 use crate::desk::foreseer::Foreseer;
 use crate::desk::form::{band, numbers, Command, Word};
@@ -16,8 +17,9 @@ use crate::paper::band::Bands;
 use crate::paper::lanes::{Lanes, Nodes, LANES};
 use crate::paper::marks::{marked_at, Mark, Slot};
 use crate::paper::profile::Profile;
-use crate::paper::refusals::MARKS_EXCEED;
+use crate::paper::refusals::{MARKS_EXCEED, SIZES_OR_NOT_SOUND};
 use crate::paper::search::{looks, marks_taken};
+use crate::paper::wheel::{turned, Turn, Turned, PLACES};
 
 /// The kinds whose lives are tried, in order.
 const KINDS: &[&str] = &["few_keys", "few_marks", "many_machines", "spoiled_words", "console"];
@@ -306,34 +308,114 @@ fn in_lines() {
             }
             None
         };
-        assert_bites(&format!("a wrong {name} changes the card"), &["console"], 4, &mistake);
+        assert_bites(&format!("a wrong {name} changes the card"), &["console"], 5, &mistake);
     }
 }
 
-/// A desk that does one thing more with commands of a name.
-fn bites_with_more(name: &str, most_lines: usize, more: fn(&[Word]) -> Command) {
+/// A desk that does one thing more with commands of a name, in lives of a kind.
+fn bites_with_more(kind: &str, name: &str, most_lines: usize, more: fn(&[Word]) -> Command) {
     let mistake = at(name, move |command, desk| {
         let answer = command.foresee(desk);
         more(&command.words).foresee(desk);
         answer
     });
     let told = format!("{name} does more");
-    assert_bites(&told, &["bench_card"], most_lines, &mistake);
+    assert_bites(&told, &[kind], most_lines, &mistake);
 }
 
 #[test]
 fn in_keeping_card_and_memory_apart() {
     for name in ["empty", "memory", "lengths", "fill", "poke", "card scan"] {
-        bites_with_more(name, 4, |_| card_clear());
+        bites_with_more("bench_card", name, 4, |_| card_clear());
     }
-    bites_with_more("insert", 3, |words| card_add(band(words)));
-    bites_with_more("card add", 3, |words| insert(band(words), 1, 1));
-    bites_with_more("card clear", 3, |_| empty());
-    bites_with_more("card add", 3, |_| poke(Slice::Marks, 0, 6));
-    bites_with_more("card scan", 3, |_| memory(9, 9));
+    bites_with_more("bench_card", "insert", 3, |words| card_add(band(words)));
+    bites_with_more("bench_card", "card add", 3, |words| insert(band(words), 1, 1));
+    bites_with_more("bench_card", "card clear", 3, |_| empty());
+    bites_with_more("bench_card", "card add", 3, |_| poke(Slice::Marks, 0, 6));
+    bites_with_more("bench_card", "card scan", 3, |_| memory(9, 9));
     let mistake = at("card add", |command, desk| {
         altered(command.foresee(desk), |text| text.replace("? card full", "0"))
     });
     // All that fill the card have to stay, so it is not cut down.
     assert!(found(&["bench_card"], &mistake).is_some());
+}
+
+/// What a wheel gives for a place.
+type Wheel = fn(u32) -> Turned;
+
+/// Wheels with an error in them.
+const WHEELS: [(&str, Wheel); 12] = [
+    ("levels are counted from 0", |place| spoiled(place, |turn| turn.level -= 1)),
+    ("no level is capped", |place| spoiled(place, |turn| turn.level = 1 + place.trailing_zeros())),
+    ("the last place is not capped", |place| match place {
+        PLACES => spoiled(place, |turn| turn.level = 11),
+        _ => turned(place),
+    }),
+    ("the middle place is one level low", |place| match place {
+        512 => spoiled(place, |turn| turn.level -= 1),
+        _ => turned(place),
+    }),
+    ("every place has the level of the next", |place| {
+        let next = turned(place)?.next;
+        Ok(Turn { next, ..turned(next)? })
+    }),
+    ("the last place is followed by one more", |place| {
+        spoiled(place, |turn| turn.next = place + 1)
+    }),
+    ("the last place but one is followed by 0", |place| {
+        spoiled(place, |turn| turn.next = (place + 1) % PLACES)
+    }),
+    ("a place is followed by itself", |place| spoiled(place, |turn| turn.next = place)),
+    ("place 0 is taken for the last", |place| match place {
+        0 => turned(PLACES),
+        _ => turned(place),
+    }),
+    ("the place after the last is taken for the first", |place| match place {
+        1_025 => turned(1),
+        _ => turned(place),
+    }),
+    ("places past the last go round", |place| match place {
+        0 => turned(place),
+        _ => turned((place - 1) % PLACES + 1),
+    }),
+    ("the upper bits of a place are lost", |place| turned(place % (1 << 16))),
+];
+
+/// The right turn with something wrong in it.
+fn spoiled(place: u32, spoil: impl FnOnce(&mut Turn)) -> Turned {
+    let mut turn = turned(place)?;
+    spoil(&mut turn);
+    Ok(turn)
+}
+
+/// A wheel by another rule, which may go by what is lent.
+fn wheel_by<'a>(
+    turned: impl Fn(u32, &Foreseer) -> Turned + 'a,
+) -> impl Fn(&Read, &mut Foreseer) -> Option<Foreseen> + 'a {
+    at("wheel", move |command, desk| {
+        let [place] = numbers(&command.words);
+        wheel::told(place, turned(place, desk))
+    })
+}
+
+#[test]
+fn in_the_wheel() {
+    assert!(found(&["wheel"], &wheel_by(|place, _| turned(place))).is_none());
+    for (name, mistaken) in WHEELS {
+        assert_bites(name, &["wheel"], 1, &wheel_by(|place, _| mistaken(place)));
+    }
+    let for_sizes = wheel_by(|place, desk| match desk.lending().rooms() {
+        Some(_) => turned(place),
+        None => Err(SIZES_OR_NOT_SOUND),
+    });
+    assert_bites("wrong sizes refuse the wheel", &["wheel"], 2, &for_sizes);
+    let for_memory = wheel_by(|place, desk| match (desk.profile(), desk.lending().rooms()) {
+        (None, Some(_)) => Err(SIZES_OR_NOT_SOUND),
+        _ => turned(place),
+    });
+    assert_bites("memory not sound refuses the wheel", &["wheel"], 2, &for_memory);
+    bites_with_more("wheel", "wheel", 3, |_| card_clear());
+    bites_with_more("wheel", "wheel", 3, |_| empty());
+    bites_with_more("wheel", "wheel", 3, |_| memory(9, 9));
+    bites_with_more("wheel", "wheel", 3, |words| poke(Slice::Nodes, 0, numbers::<1>(words)[0]));
 }
