@@ -1,4 +1,4 @@
-// The box's calls, by the table's letters.
+// The box's calls and the wheel's turn, by the table's letters.
 use desk_answers::Told;
 use desk_lines::Command;
 use hall::Answer;
@@ -27,7 +27,7 @@ pub(crate) fn change(
     }
 }
 
-// The wheel is lent no word.
+// The wheel is lent no word of the memory.
 fn turn(place: Place) -> Told {
     let turned = wheel::turn(place);
     let answer = turned.answer;
@@ -45,7 +45,7 @@ pub(crate) fn ask(command: Command, bands: &[u32], nodes: &[u32], marks: &[u32])
         b'e' => desk_answers::edge_answer(asking::edge(bands, nodes, marks, key, lane)),
         b'n' => desk_answers::node_answer(asking::node(bands, nodes, marks, key)),
         b'r' => desk_answers::room_answer(asking::room(bands, nodes, marks)),
-        b'w' => turn(Place(number)),
+        b'w' => turn(Place(command.first)),
         _ => desk_answers::check_answer(checking::check(bands, nodes, marks)),
     }
 }

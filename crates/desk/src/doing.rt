@@ -14,7 +14,7 @@ use desk_answers::Told;
 use desk_lines::Command;
 use desk_lines::Fault;
 
-// A command on the words that are lent: of the kinds w, c and a. Any other changes no word, and nothing is told of it here.
+// A command on the words that are lent: of the kinds w, c and a (the wheel is of the last, and looks at none). Any other changes no word, and nothing is told of it here.
 fn on_lent(command: Command, bands: &mut [u32], nodes: &mut [u32], marks: &mut [u32]) -> Told {
     let kind = command.kind;
     match kind {

@@ -15,7 +15,7 @@ const SECOND: u32 = 1;
 const LETTERS: u32 = 2;
 
 // The letters: one for each word that the command takes (n a number, k a key, s a slice, [ a stretch), and two for what it asks: its kind (l lends
-// words, w takes them as words, c is a change and a a question of the box, b is for the bench card, h is help) and which of that kind. Two kinds more are in no
+// words, w takes them as words, c is a change and a a question of the box or of the wheel, b is for the bench card, h is help) and which of that kind. Two kinds more are in no
 // row: `Command::nothing` and `Command::wrong`.
 pub(crate) const KIND: u32 = 6;
 

@@ -1,6 +1,6 @@
 -- What the definitions mean, and what follows from them. A file here bears the name of the file of specs/ whose laws it holds; besides,
 -- Means has the form of those laws, Sums the laws of sums and counts, FirstLine which of several lines of the table is given, Zeros what "zeros
--- throughout" is word for word, and Connectives and Faults hold laws in the form that code asks for. InsertRefused, RemoveRefused and OthersRefused say of
+-- throughout" is word for word, TrailingZeros what a count of trailing zero bits says, and Connectives and Faults hold laws in the form that code asks for. InsertRefused, RemoveRefused and OthersRefused say of
 -- each call in plain words when it gives which number.
 -- The theory of lanes and marks, which builds on these files, stands in Theory/, with its own index.
 pub mod Means

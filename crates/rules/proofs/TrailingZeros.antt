@@ -60,11 +60,11 @@ trailing-zeros-mean k n z p h = (
   λ odd. zeros-only z k n (odd .half) (odd .product) p h,
 )
 
--- and more bits have no more
+-- so it does not matter how many bits are looked at, where they are enough
 pub enough-bits : (j k n : ℕ) → 0 < n → n < 2 ^ j → n < 2 ^ k → trailingZeros j n ≡ trailingZeros k n
 enough-bits j k n p g h = trailing-zeros-mean j n (trailingZeros k n) p g .1 (zeros-found k n p h)
 
--- of any number: k bits have as many as a further ones beside them, but no more than k
+-- of any number: its lowest k bits have as many trailing zeros as its lowest k + a, but at most k
 pub bits-cap : (k a n : ℕ) → min k (trailingZeros (k + a) n) ≡ trailingZeros k n
 unfolding trailingZeros
 bits-cap zero a n = omega arith
@@ -75,7 +75,7 @@ bits-cap (suc k) a n = rw (suc-add k a) (go (n % 2) (bits-cap k a (n / 2)))
     go zero e = omega (arith, e)
     go (suc d) e = omega arith
 
--- of any number: bits from the k-th on play no part in the lowest k
+-- of any number: whatever stands above them plays no part in the trailing zeros of its lowest k bits
 pub low-bits-alone : (k n m : ℕ) → trailingZeros k (n + 2 ^ k * m) ≡ trailingZeros k n
 unfolding trailingZeros
 low-bits-alone zero n m = refl

@@ -7,16 +7,19 @@ use mathlib.Core.Path.{_≡_, refl, sym, ap, _∙_}
 use mathlib.Core.Bool.{false}
 use mathlib.Core.Logic.{_↔_, _⊎_, ⊎-elim}
 use lib.Count.{trailingZeros}
-use lib.ListN.{getD}
 use lib.Pow.{pow-mono}
 use borrow.Author.Tests.{ne-eqb}
 use Rattle.rules.specs.NodesLanesEdges.{lanes}
 use Rattle.rules.specs.BoxSaysNo.{levelWrong, saying}
-use Rattle.rules.specs.Wheel.{wheelPlaces, trailingZeroBits, wheelLevel, levelsFrom, wheel, nextPlace, placeOnWheel, placeAfter, offWheel, turnRefusal, turnOf, noTurn, turnAnswer}
+use Rattle.rules.specs.Wheel.{wheelPlaces, trailingZeroBits, wheelLevel, nextPlace, placeOnWheel, placeAfter, offWheel, turnRefusal, turnOf, noTurn, turnAnswer}
 use Rattle.rules.proofs.Means.{Means, Fails, reworded, so-or-not, denied, not-fails, and-means, or-means, or-fails, eq-means, lt-means, lt-fails}
 use Rattle.rules.proofs.FirstLine.{last-own, last-zero}
 use Rattle.rules.proofs.NodesLanesEdges.{Level, is-level-means}
 use Rattle.rules.proofs.TrailingZeros.{TimesOdd, below-its-power, trailing-zeros-mean, enough-bits, bits-cap, low-bits-alone}
+
+-- a place is on the wheel
+abbrev pub OnWheel : ℕ → Type 0
+OnWheel place = (1 ≤ place) × (place ≤ wheelPlaces)
 
 -- ---- the rule
 
@@ -36,28 +39,13 @@ seven-bits i p =
 pub level-by-bits : (k i : ℕ) → 0 < i → wheelLevel i ≡ min lanes (1 + trailingZeros (7 + k) i)
 level-by-bits k i p = omega (arith, seven-bits i p, bits-cap 7 k i)
 
--- the wheel has levels, and no others: 7 refuses none of them
+-- whatever the wheel has is a level, 1 to 8, and 7 refuses no two of them
 pub wheel-has-levels : (i : ℕ) → Level (wheelLevel i)
 unfolding wheelLevel
 wheel-has-levels i = omega arith
 
 pub wheel-not-refused : (i j : ℕ) → levelWrong (wheelLevel i) (wheelLevel j) .applies ≡ false
 wheel-not-refused i j = not-fails (and-means (is-level-means (wheelLevel i)) (is-level-means (wheelLevel j))) .test (wheel-has-levels i, wheel-has-levels j)
-
--- ---- the wheel whole
-
-levels-by-rule : (place n i : ℕ) → i < n → getD (levelsFrom place n) i 0 ≡ wheelLevel (i + place)
-levels-by-rule place zero i h = absurd (omega arith)
-levels-by-rule place (suc n) zero h = ap wheelLevel (omega arith)
-levels-by-rule place (suc n) (suc i) h = levels-by-rule (suc place) n i (omega arith) ∙ ap wheelLevel (omega arith)
-
--- its entry at each place is the rule's; the first has index 0
-pub wheel-by-rule : (i : ℕ) → i < wheelPlaces → getD wheel i 0 ≡ wheelLevel (i + 1)
-wheel-by-rule i h = levels-by-rule 1 wheelPlaces i h
-
--- a place is on the wheel
-abbrev pub OnWheel : ℕ → Type 0
-OnWheel place = (1 ≤ place) × (place ≤ wheelPlaces)
 
 -- ---- past 1,024
 

@@ -3,7 +3,7 @@
 -- Assumes nothing.
 use Prim.Native.Nat.{ℕ, zero, suc, _+_, _-_, _%_, min}
 use mathlib.Core.Bool.{cond}
-use mathlib.Core.List.{List, [], _∷_}
+use mathlib.Core.List.{[], _∷_}
 use lib.Count.{trailingZeros}
 use lib.Dec.{ltb, eqb}
 use Rattle.rules.specs.Connectives.{_or_}
@@ -22,19 +22,11 @@ trailingZeroBits i = trailingZeros i i
 unfoldable pub wheelLevel : ℕ → ℕ
 wheelLevel i = min lanes (1 + trailingZeroBits i)
 
--- the levels of n places from a place on, and those of the whole wheel
-abbrev pub levelsFrom : ℕ → ℕ → List ℕ
-levelsFrom place zero = []
-levelsFrom place (suc n) = wheelLevel place ∷ levelsFrom (suc place) n
-
-abbrev pub wheel : List ℕ
-wheel = levelsFrom 1 wheelPlaces
-
 -- a place is followed by the one after it, and 1,024 by 1
 unfoldable pub nextPlace : ℕ → ℕ
 nextPlace place = cond (eqb place wheelPlaces) 1 (place + 1)
 
--- the places carried on past 1,024: place i is (i - 1) mod 1,024 + 1
+-- the places carried on past 1,024: place i, from 1, is (i - 1) mod 1,024 + 1
 abbrev pub placeOnWheel : ℕ → ℕ
 placeOnWheel i = (i - 1) % wheelPlaces + 1
 

@@ -61,7 +61,7 @@ module _ (κs : Lfts 0) (end : ℕ → Place × Unit {0}) (t : ℕ → Turned)
       let before = in-turn n ∙ turn-on-wheel (placeAfter n) (after-turns-on-wheel n) in
       others n ∙ ap (λ s. turnAnswer (s .read .next)) before
 
-  -- the n-th, counted from 1, has the rule's level at n, however far round
+  -- the levels that come back are the rule's at 1, 2, 3 and so on, however far round
   pub levels-taken-in-turn : (n : ℕ) → t n .level ≡ min 8 (1 + trailingZeroBits (n + 1))
   unfolding wheelLevel
   levels-taken-in-turn n =

@@ -2,6 +2,7 @@
 ghost use mathlib.Core.Path.{_≡_};
 ghost use Prim.Native.Nat.{_+_, _<_};
 ghost use Rattle.rules.specs.Wheel.{wheelPlaces, wheelLevel};
+ghost use Rattle.wheel.specs.TableTest.{TableRight};
 use crate::places::PLACES;
 
 // The levels of places 1 to 1,024, sixteen to a row.
@@ -71,10 +72,18 @@ const LEVELS: [u8; PLACES as usize] = *b"\
     \x01\x02\x01\x03\x01\x02\x01\x04\x01\x02\x01\x03\x01\x02\x01\x05\
     \x01\x02\x01\x03\x01\x02\x01\x04\x01\x02\x01\x03\x01\x02\x01\x08";
 
+// The whole table, of which a test over all its places finds none wrong.
+fn table() -> [u8; PLACES as usize]
+    ensures { λ r. ⌜ TableRight r ⌝ }
+{
+    LEVELS
+}
+
 // The level at an index, counted from 0: that of the place after it.
 pub(crate) fn level_at(index: usize) -> u8
     requires { ⌜ index < wheelPlaces ⌝ }
     ensures { λ r. ⌜ r ≡ wheelLevel (index + 1) ⌝ }
 {
-    LEVELS[index]
+    let levels = table();
+    levels[index]
 }

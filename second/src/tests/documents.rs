@@ -81,7 +81,8 @@ fn the_morning_takes_every_level_from_the_wheel_in_turn() {
             _ => {}
         }
     }
-    assert!(bands >= 10, "{bands} bands");
+    assert!(told.is_empty(), "{} levels asked for and not used", told.len());
+    assert_eq!(bands, 14);
 }
 
 #[test]

@@ -308,6 +308,7 @@ fn in_lines() {
             }
             None
         };
+        // Three lines would show it; as the console's lines fall, cutting leaves up to two more.
         assert_bites(&format!("a wrong {name} changes the card"), &["console"], 5, &mistake);
     }
 }

@@ -4,7 +4,7 @@
 use Prim.Native.Nat.{ℕ}
 use native.Mathlib.Omega.{arith}
 use mathlib.Core.Path.{_≡_, sym, ap, ap₂, _∙_}
-use mathlib.Core.Bool.{Bool, true, false}
+use mathlib.Core.Bool.{Bool, false}
 use borrow.Author.Needs.{needs}
 use Rattle.rules.specs.BoxSaysNo.{saying}
 use Rattle.rules.specs.Wheel.{wheelLevel, offWheel, turnOf}
