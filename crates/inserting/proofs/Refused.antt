@@ -5,7 +5,9 @@ use Prim.Native.Nat.{ℕ}
 use mathlib.Core.Path.{_≡_}
 use mathlib.Core.Bool.{true, false}
 use Rattle.rules.specs.HallLine.{Band}
+use Rattle.rules.specs.Wheel.{wheelLevel}
 use Rattle.rules.proofs.InsertRefused.{InsertGives, insert-gives}
+use Rattle.rules.proofs.Wheel.{wheel-not-refused}
 use Rattle.store.specs.Sizes.{sizesRight}
 use Rattle.store.specs.Memory.{Memory, lengthsIn, roomIn}
 use Rattle.store.specs.SaidProfile.{saidProfile}
@@ -19,3 +21,7 @@ pub insert-refused-exactly : (m : Memory) (b : Band) (lo hi : ℕ)
 unfolding insertIn changeIn insertRefusalIn
 insert-refused-exactly m b lo hi =
     insert-gives (sizesRight (lengthsIn m)) (sound m) (unsound-means m) (unsound-fails m) (roomIn m) (saidProfile m) b lo hi
+
+-- levels that are both the wheel's are never what it is refused for
+pub wheel-levels-taken : (m : Memory) (b : Band) (i j : ℕ) → insertIn m b (wheelLevel i) (wheelLevel j) .refusal ≡ 7 → ⊥
+wheel-levels-taken m b i j = wheel-not-refused i j (insert-refused-exactly m b (wheelLevel i) (wheelLevel j))

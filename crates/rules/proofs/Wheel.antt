@@ -4,17 +4,20 @@
 use Prim.Native.Nat.{ℕ, zero, suc, _+_, _-_, _*_, _/_, _^_, _≤_, _<_, min}
 use native.Mathlib.Omega.{arith}
 use mathlib.Core.Path.{_≡_, refl, sym, ap, _∙_}
-use mathlib.Core.Bool.{false}
 use mathlib.Core.Logic.{_↔_, _⊎_, ⊎-elim}
 use lib.Count.{trailingZeros}
 use lib.Pow.{pow-mono}
 use borrow.Author.Tests.{ne-eqb}
+use Rattle.rules.specs.HallLine.{Band}
 use Rattle.rules.specs.NodesLanesEdges.{lanes}
-use Rattle.rules.specs.BoxSaysNo.{levelWrong, saying}
+use Rattle.rules.specs.Profile.{Profile}
+use Rattle.rules.specs.Room.{Room}
+use Rattle.rules.specs.BoxSaysNo.{saying}
 use Rattle.rules.specs.Wheel.{wheelPlaces, trailingZeroBits, wheelLevel, nextPlace, placeOnWheel, placeAfter, offWheel, turnRefusal, turnOf, noTurn, turnAnswer}
-use Rattle.rules.proofs.Means.{Means, Fails, reworded, so-or-not, denied, not-fails, and-means, or-means, or-fails, eq-means, lt-means, lt-fails}
+use Rattle.rules.proofs.Means.{Means, Fails, reworded, so-or-not, denied, or-means, or-fails, eq-means, lt-means, lt-fails}
 use Rattle.rules.proofs.FirstLine.{last-own, last-zero}
-use Rattle.rules.proofs.NodesLanesEdges.{Level, is-level-means}
+use Rattle.rules.proofs.NodesLanesEdges.{Level}
+use Rattle.rules.proofs.InsertRefused.{InsertGives}
 use Rattle.rules.proofs.TrailingZeros.{TimesOdd, below-its-power, trailing-zeros-mean, enough-bits, bits-cap, low-bits-alone}
 
 -- a place is on the wheel
@@ -39,13 +42,18 @@ seven-bits i p =
 pub level-by-bits : (k i : ℕ) → 0 < i → wheelLevel i ≡ min lanes (1 + trailingZeros (7 + k) i)
 level-by-bits k i p = omega (arith, seven-bits i p, bits-cap 7 k i)
 
--- whatever the wheel has is a level, 1 to 8, and 7 refuses no two of them
+-- whatever the wheel has is a level, 1 to 8
 pub wheel-has-levels : (i : ℕ) → Level (wheelLevel i)
 unfolding wheelLevel
 wheel-has-levels i = omega arith
 
-pub wheel-not-refused : (i j : ℕ) → levelWrong (wheelLevel i) (wheelLevel j) .applies ≡ false
-wheel-not-refused i j = not-fails (and-means (is-level-means (wheelLevel i)) (is-level-means (wheelLevel j))) .test (wheel-has-levels i, wheel-has-levels j)
+level-right : (i : ℕ) → (wheelLevel i < 1) ⊎ (lanes < wheelLevel i) → ⊥
+level-right i = let level = wheel-has-levels i in ⊎-elim (λ below. omega arith) (λ above. omega arith)
+
+-- so 7 is never the number of an insert whose levels are both the wheel's
+pub wheel-not-refused : {Unsound Sound : Type 0} {room : Room} {p : Profile} {b : Band} {n : ℕ} (i j : ℕ)
+    → InsertGives Unsound Sound room p b (wheelLevel i) (wheelLevel j) n → n ≡ 7 → ⊥
+wheel-not-refused i j gives e = ⊎-elim (level-right i) (level-right j) (gives .gives-7 .0 e .2)
 
 -- ---- past 1,024
 
