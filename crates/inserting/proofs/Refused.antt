@@ -22,6 +22,6 @@ unfolding insertIn changeIn insertRefusalIn
 insert-refused-exactly m b lo hi =
     insert-gives (sizesRight (lengthsIn m)) (sound m) (unsound-means m) (unsound-fails m) (roomIn m) (saidProfile m) b lo hi
 
--- levels that are both the wheel's are never what it is refused for
+-- an insert whose levels are both the wheel's is never refused by 7
 pub wheel-levels-taken : (m : Memory) (b : Band) (i j : ℕ) → insertIn m b (wheelLevel i) (wheelLevel j) .refusal ≡ 7 → ⊥
 wheel-levels-taken m b i j = wheel-not-refused i j (insert-refused-exactly m b (wheelLevel i) (wheelLevel j))

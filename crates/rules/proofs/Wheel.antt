@@ -38,7 +38,7 @@ seven-bits i p =
     let same = enough-bits i (7 + i) i p (below-its-power i) above in
     omega (arith, bits-cap 7 i i, same)
 
--- so any seven bits or more may be looked at, as those of a word
+-- so the lowest bits may be looked at, any number of them from seven on, as those of a word
 pub level-by-bits : (k i : ℕ) → 0 < i → wheelLevel i ≡ min lanes (1 + trailingZeros (7 + k) i)
 level-by-bits k i p = omega (arith, seven-bits i p, bits-cap 7 k i)
 

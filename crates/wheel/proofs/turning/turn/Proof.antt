@@ -1,5 +1,5 @@
--- `wheel::turn` meets its contract: the test by which a place is refused is the rule's; past it the place is on the wheel, and the entry before which
--- so many others stand is its own.
+-- `wheel::turn` meets its contract: the test by which a place is refused is the rule's; past it the place is on the wheel, and the entry
+-- at index place - 1 is its own.
 -- Assumes nothing.
 use Prim.Native.Nat.{ℕ}
 use native.Mathlib.Omega.{arith}
