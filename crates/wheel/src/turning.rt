@@ -15,6 +15,7 @@ pub struct Turned {
     pub next: Place,
 }
 
+// By 7, as for a level that is none: such a place has none.
 fn refused() -> Turned
     ensures { λ r. ⌜ turnedSays r ≡ saying 7 noTurn ⌝ }
 {

@@ -308,7 +308,7 @@ fn in_lines() {
             }
             None
         };
-        // Three lines would show it; as the console's lines fall, cutting leaves up to two more.
+        // Five where the scan tells a place: two records of one number behind the cleared one.
         assert_bites(&format!("a wrong {name} changes the card"), &["console"], 5, &mistake);
     }
 }

@@ -28,7 +28,9 @@ returns c =
     c .refused .ensures ∙ sym (turn-off-wheel place (off-wheel-means place .fact (sym (c .before .before .is-off .ensures) ∙ c .before .if1 .taken)))
 
 sub-level-at : tie.Need-sub-level-at
-sub-level-at c = passed _ (c .before .before .is-off .ensures) (c .before .if1 .left) .0
+sub-level-at c =
+    let on = passed (c .before .before .before .args .place .0) (c .before .before .is-off .ensures) (c .before .if1 .left) in
+    omega arith
 
 cast-level-at : tie.Need-cast-level-at
 cast-level-at c = search needs
