@@ -15,7 +15,6 @@ use Rattle.rules.specs.Search.{Stab}
 use Rattle.rules.specs.Readouts.{BandRead as RuledBandRead, band_read_of, EdgeRead as RuledEdgeRead, NodeRead as RuledNodeRead, RoomRead as RuledRoomRead}
 use Rattle.rules.specs.BoxSaysNo.{Answered, saying}
 use Rattle.rules.proofs.Lists.{Each}
-use Rattle.rules.proofs.OpenLine.{Plugged}
 use Rattle.rules.proofs.OthersRefused.{SizesGive, StabGives}
 use Rattle.rules.proofs.Zeros.{StabOfZeros, BandOfZeros, EdgeOfZeros, NodeOfZeros, RoomOfZeros, ZerosIfRefused}
 use Rattle.hall.specs.declared.keys.Key.{Key}
@@ -52,15 +51,14 @@ use Rattle.asking.proofs.Promises.{StabPromise, BandPromise, EdgePromise, NodePr
 
 -- by a stab at key k
 pub record StabTold (m : Memory) (k : ℕ) (a : Answered Stab) : Type 0 where
-  -- 1 exactly for wrong sizes, else 4 exactly for a key above the line, else 18 exactly for an open line's key, else 0
+  -- 1 exactly for wrong sizes, else 4 exactly for a key above the line, else 0
   pub refused : StabGives (sizes_right (lengths_in m)) k a.refusal
   -- where that is not 0, zeros throughout
   pub zeros : ZerosIfRefused StabOfZeros a
   -- the count is the number of set flags
   pub counted : a.read.count ≡ set_flags a.read.flags
-  -- on sound memory at a key on the line whose reading is below 1,023: 0, the flags of the live bands that hold the key, how many they are, as many marks
-  -- met, the paper's looks
-  pub exact : sound m ≡ true → k ≤ highest_key → Plugged k → (a.refusal ≡ 0) × ExactStab (said_profile m) k a.read
+  -- on sound memory at a key on the line: 0, the flags of the live bands that hold the key, how many they are, as many marks met, the paper's looks
+  pub exact : sound m ≡ true → k ≤ highest_key → (a.refusal ≡ 0) × ExactStab (said_profile m) k a.read
 
 -- by the readout of a band
 pub record BandTold (m : Memory) (number : ℕ) (a : Answered RuledBandRead) : Type 0 where
@@ -108,7 +106,7 @@ module _ (m : Memory) where
         refused = stab_refused_exactly m k;
         zeros = (refused_answers_zeros m).stab k;
         counted = stab_counts_flags m k;
-        exact = λ s on_line plugged. stab_exact m s k on_line plugged;
+        exact = λ s h. stab_exact m s k h;
       }
 
   band_told : (number : ℕ) → BandTold m number (band_in m number)

@@ -6,15 +6,12 @@ use mathlib.Core.Path.{◌≡◌, sym, ◌∙◌, ap}
 use mathlib.Core.Bool.{true}
 use mathlib.Core.Logic.{◌↔◌, ◌⊎◌}
 use native.Mathlib.Omega.{arith}
-use Rattle.rules.specs.HallLine.{highest_key, parts_in_range, key_of}
-use Rattle.rules.specs.OpenLine.{open_reading}
+use Rattle.rules.specs.HallLine.{highest_key}
 use Rattle.rules.specs.NodesLanesEdges.{lanes, level_at}
 use Rattle.rules.specs.Profile.{Profile, is_live}
 use Rattle.rules.specs.BoxSaysNo.{band_read_refusal, band_read_answer, edge_read_answer, node_read_answer}
 use Rattle.rules.proofs.Means.{denied, not_means, not_fails, and_means, and_fails, lt_means, lt_fails, eq_means}
 use Rattle.rules.proofs.Lists.{Some, Each, any_fails}
-use Rattle.rules.proofs.HallLine.{key_on_line}
-use Rattle.rules.proofs.OpenLine.{open_by_reading, plugged_by_reading}
 use Rattle.rules.proofs.NodesLanesEdges.{level_there}
 use Rattle.rules.proofs.Profile.{has_number_means, is_live_means}
 use Rattle.rules.proofs.BoxSaysNo.{edge_accepted, node_accepted}
@@ -46,20 +43,6 @@ module _ (m : Memory) where
   pub stab_refused_exactly : (k : ℕ) → StabGives (sizes_right (lengths_in m)) k (stab_in m k).refusal
   unfolding stab_in
   stab_refused_exactly k = stab_gives (sizes_right (lengths_in m)) k
-
-  -- .. by machine, sensor and reading, in memory of right sizes, sound or not: 18 exactly at reading 1,023, and 0 exactly below it
-  module _ (right : sizes_right (lengths_in m) ≡ true) (machine sensor reading : ℕ) (in_range : parts_in_range machine sensor reading ≡ true) where
-    pub open_reading_refused : ((stab_in m (key_of machine sensor reading)).refusal ≡ 18) ↔ (reading ≡ open_reading)
-    open_reading_refused =
-        let given = stab_refused_exactly (key_of machine sensor reading) in
-        let by_reading = open_by_reading machine sensor reading in_range in
-        (λ e. by_reading.0 (given.gives_18.0 e).2, λ e. given.gives_18.1 (right, key_on_line machine sensor reading in_range, by_reading.1 e))
-
-    pub lower_reading_answered : ((stab_in m (key_of machine sensor reading)).refusal ≡ 0) ↔ (reading < open_reading)
-    lower_reading_answered =
-        let given = stab_refused_exactly (key_of machine sensor reading) in
-        let by_reading = plugged_by_reading machine sensor reading in_range in
-        (λ e. by_reading.0 (given.gives_0.0 e).2, λ l. given.gives_0.1 (right, key_on_line machine sensor reading in_range, by_reading.1 l))
 
   module _ (number : ℕ) where
     -- a number is live where some band that the words say has it

@@ -9,9 +9,9 @@ use borrow.Author.Tests.{lt-ltb, le-ltb, ne_eqb}
 use Rattle.rules.specs.Connectives.{says_yes}
 use Rattle.rules.specs.HallLine.{highest_key, highest_band_number}
 use Rattle.rules.specs.Readouts.{band_read_of}
-use Rattle.rules.specs.BoxSaysNo.{TableLine, refusal_by, saying, stab_refusal, key_lines, key_refusal, room_read_refusal, no_stab, no_edge_read, no_node_read, no_room_read}
+use Rattle.rules.specs.BoxSaysNo.{TableLine, refusal_by, saying, stab_lines, stab_refusal, room_read_refusal, no_stab, no_edge_read, no_node_read, no_room_read}
 use Rattle.rules.proofs.FirstLine.{refusal_enough}
-use Rattle.rules.proofs.BoxSaysNo.{stab_accepted, key_accepted}
+use Rattle.rules.proofs.BoxSaysNo.{stab_accepted}
 use Rattle.rules.specs.Room.{most_marks}
 use Rattle.store.specs.Sizes.{lengths_of, sizes_right}
 use Rattle.store.specs.Memory.{Memory, lengths_in}
@@ -57,22 +57,16 @@ module _ (m : Memory) (right : sizes_right (lengths_in m) ≡ true) where
     unfolding band_in band_refusal_in
     band_read_lem live = rw (right, le-ltb _ _ in_range, live)
 
--- 1 (sizes), 4 and 18 are judged first where bands are asked for, and what they give stands
-module _ (m : Memory) (k : ℕ) where
-  pub stab_refused : (n : ℕ) → n ≡ stab_refusal (sizes_right (lengths_in m)) k → (n ≡ 0 → ⊥) → saying n no_stab ≡ stab_in m k
+-- 1 (sizes) and 4 are judged first where a key is given, and what they give stands
+module _ (m : Memory) (k n : ℕ) (judged : n ≡ stab_refusal (sizes_right (lengths_in m)) k) (given : n ≡ 0 → ⊥) where
+  pub stab_refused : saying n no_stab ≡ stab_in m k
   unfolding stab_in
-  stab_refused n judged given = rw (← judged, ne_eqb n 0 given)
+  stab_refused = rw (← judged, ne_eqb n 0 given)
 
-  pub stabbed : 0 ≡ stab_refusal (sizes_right (lengths_in m)) k → saying 0 (stab_found (search_of m.nodes m.marks k)) ≡ stab_in m k
-  unfolding stab_in
-  stabbed judged = rw (← judged)
-
--- .. and 1 and 4 where a node is
-module _ (m : Memory) (k n : ℕ) (judged : n ≡ key_refusal (sizes_right (lengths_in m)) k) (given : n ≡ 0 → ⊥) where
   -- lines after them play no part
-  first_lines : (ls : List TableLine) → refusal_by (key_lines (sizes_right (lengths_in m)) k ++ ls) ≡ n
-  unfolding key_refusal
-  first_lines ls = refusal_enough (key_lines (sizes_right (lengths_in m)) k) ls (λ z. given (judged ∙ z)) ∙ sym judged
+  first_lines : (ls : List TableLine) → refusal_by (stab_lines (sizes_right (lengths_in m)) k ++ ls) ≡ n
+  unfolding stab_refusal
+  first_lines ls = refusal_enough (stab_lines (sizes_right (lengths_in m)) k) ls (λ z. given (judged ∙ z)) ∙ sym judged
 
   pub edge_refused : (lane : ℕ) → saying n no_edge_read ≡ edge_in m k lane
   unfolding edge_in edge_refusal_in
@@ -82,40 +76,38 @@ module _ (m : Memory) (k n : ℕ) (judged : n ≡ key_refusal (sizes_right (leng
   unfolding node_in node_refusal_in
   node_refused = rw (first_lines _, ne_eqb n 0 given)
 
--- sizes are right where neither list gives anything: there are no more marks than the largest room has
-right_marks_fit : (b n m : ℕ) → sizes_right (lengths_of b n m) ≡ true → m ≤ most_marks
-right_marks_fit b n m right = ((sizes_in_numbers b n m).fact right).5
+-- where they give nothing there are no more marks than the largest room has
+pub marks_fit : (b n m k : ℕ) → 0 ≡ stab_refusal (sizes_right (lengths_of b n m)) k → m ≤ most_marks
+marks_fit b n m k judged = ((sizes_in_numbers b n m).fact ((stab_accepted (sizes_right (lengths_of b n m)) k).0 (sym judged)).0).5
 
-pub stab_marks_fit : (b n m k : ℕ) → 0 ≡ stab_refusal (sizes_right (lengths_of b n m)) k → m ≤ most_marks
-stab_marks_fit b n m k judged = right_marks_fit b n m ((stab_accepted (sizes_right (lengths_of b n m)) k).0 (sym judged)).0
+module _ (m : Memory) (k : ℕ) (judged : 0 ≡ stab_refusal (sizes_right (lengths_in m)) k) where
+  key_accepted : (sizes_right (lengths_in m) ≡ true) × (k ≤ highest_key)
+  key_accepted = (stab_accepted (sizes_right (lengths_in m)) k).0 (sym judged)
 
-pub marks_fit : (b n m k : ℕ) → 0 ≡ key_refusal (sizes_right (lengths_of b n m)) k → m ≤ most_marks
-marks_fit b n m k judged = right_marks_fit b n m ((key_accepted (sizes_right (lengths_of b n m)) k).0 (sym judged)).0
-
-module _ (m : Memory) (k : ℕ) (judged : 0 ≡ key_refusal (sizes_right (lengths_in m)) k) where
-  key_right : (sizes_right (lengths_in m) ≡ true) × (k ≤ highest_key)
-  key_right = (key_accepted (sizes_right (lengths_in m)) k).0 (sym judged)
+  pub stabbed : saying 0 (stab_found (search_of m.nodes m.marks k)) ≡ stab_in m k
+  unfolding stab_in
+  stabbed = rw (← judged)
 
   -- 13: no node at the key
   module _ (none : place_of m.nodes k ≡ 0) where
     pub edge_by_13 : (lane : ℕ) → saying 13 no_edge_read ≡ edge_in m k lane
     unfolding edge_in edge_refusal_in
-    edge_by_13 lane = rw (key_right.0, le-ltb _ _ key_right.1, none)
+    edge_by_13 lane = rw (key_accepted.0, le-ltb _ _ key_accepted.1, none)
 
     pub node_by_13 : saying 13 no_node_read ≡ node_in m k
     unfolding node_in node_refusal_in
-    node_by_13 = rw (key_right.0, le-ltb _ _ key_right.1, none)
+    node_by_13 = rw (key_accepted.0, le-ltb _ _ key_accepted.1, none)
 
   module _ (place : ℕ) (at : place ≡ place_of m.nodes k) (some : place ≡ 0 → ⊥) where
     pub node_read_lem : saying 0 (node_at m.nodes m.marks place) ≡ node_in m k
     unfolding node_in node_refusal_in
-    node_read_lem = rw (key_right.0, le-ltb _ _ key_right.1, ← at, ne_eqb _ _ some)
+    node_read_lem = rw (key_accepted.0, le-ltb _ _ key_accepted.1, ← at, ne_eqb _ _ some)
 
     -- 13: it has no such lane
     pub edge_by_13_lane : (lane : ℕ) → has_lane m.nodes place lane ≡ false → saying 13 no_edge_read ≡ edge_in m k lane
     unfolding edge_in edge_refusal_in
-    edge_by_13_lane lane no_lane = rw (key_right.0, le-ltb _ _ key_right.1, ← at, ne_eqb _ _ some, no_lane)
+    edge_by_13_lane lane no_lane = rw (key_accepted.0, le-ltb _ _ key_accepted.1, ← at, ne_eqb _ _ some, no_lane)
 
     pub edge_read_lem : (lane : ℕ) → has_lane m.nodes place lane ≡ true → saying 0 (edge_at m.nodes m.marks place lane) ≡ edge_in m k lane
     unfolding edge_in edge_refusal_in
-    edge_read_lem lane has_lane = rw (key_right.0, le-ltb _ _ key_right.1, ← at, ne_eqb _ _ some, has_lane)
+    edge_read_lem lane has_lane = rw (key_accepted.0, le-ltb _ _ key_accepted.1, ← at, ne_eqb _ _ some, has_lane)

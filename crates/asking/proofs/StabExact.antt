@@ -1,22 +1,16 @@
--- A stab on sound memory at a key on the line whose reading is below 1,023, in plain words: its flags are those of the live bands that hold the key,
--- count and marks met are how many they are, and its looks are 8 plus the nodes stepped onto. At every other key it flags nothing and meets nothing.
+-- A stab on sound memory at a key on the line, in plain words: its flags are those of the live bands that hold the key, count and marks met are how many they are,
+-- and its looks are 8 plus the nodes stepped onto.
 -- Assumes nothing.
 use Prim.Native.Nat.{ℕ, ◌≤◌, ◌<◌}
-use mathlib.Core.Path.{◌≡◌, refl, sym, ◌∙◌, ap}
+use mathlib.Core.Path.{◌≡◌, refl, ◌∙◌}
 use mathlib.Core.Bool.{true}
-use mathlib.Core.Logic.{◌↔◌, ◌⊎◌, inl, inr, ⊎_elim}
-use mathlib.Core.List.{[]}
-use borrow.Author.Tests.{eqb-true}
-use lib.Dec.{eqb}
+use mathlib.Core.Logic.{◌↔◌}
 use Rattle.rules.specs.Lists.{count_if}
 use Rattle.rules.specs.HallLine.{highest_key, holds}
 use Rattle.rules.specs.Profile.{Profile}
 use Rattle.rules.specs.Flags.{flag_count, flag_at}
 use Rattle.rules.specs.Search.{Stab, stab_of, looks}
 use Rattle.rules.specs.BoxSaysNo.{saying, no_stab, stab_refusal, stab_answer}
-use Rattle.rules.proofs.Means.{passes_or_fails}
-use Rattle.rules.proofs.OpenLine.{Plugged}
-use Rattle.rules.proofs.Flags.{flag_set_where_in, flags_of_none}
 use Rattle.rules.proofs.BoxSaysNo.{stab_accepted, accepted_answers}
 use Rattle.rules.proofs.SoundMemory.{Standing}
 use Rattle.rules.proofs.Theory.MarkedOver.{standing_nodes_right}
@@ -50,43 +44,18 @@ exact p k s =
       looks = refl;
     }
 
-module _ (m : Memory) (s : sound m ≡ true) (k : ℕ) where
-  module _ (on_line : k ≤ highest_key) (plugged : Plugged k) where
-    accepted : stab_in m k ≡ saying 0 (stab_of (said_profile m) k)
-    unfolding stab_answer
-    accepted =
-        stab_on_sound m s k
-        ∙ accepted_answers (stab_refusal true k) no_stab (stab_of (said_profile m) k) ((stab_accepted true k).1 (refl, (on_line, plugged)))
-
-    pub stab_exact : ((stab_in m k).refusal ≡ 0) × ExactStab (said_profile m) k (stab_in m k).read
-    stab_exact = rw accepted (refl, exact (said_profile m) k (said_stands m s))
-
-    -- .. among it: the looks are 8 plus the nodes below the key with no taller node between them and it
-    pub looks_are_the_papers : (stab_in m k).read.looks ≡ looks (said_profile m) k
-    looks_are_the_papers = stab_exact.1.looks
-
-  -- at any other key it tells zeros
-  answered_or_zeros : ((k ≤ highest_key) × Plugged k) ⊎ ((stab_in m k).read ≡ no_stab)
+module _ (m : Memory) (s : sound m ≡ true) (k : ℕ) (on_line : k ≤ highest_key) where
+  accepted : stab_in m k ≡ saying 0 (stab_of (said_profile m) k)
   unfolding stab_answer
-  answered_or_zeros =
-      ⊎_elim
-      (λ t. inl ((stab_accepted true k).0 (eqb-true (stab_refusal true k) 0 t)).1)
-      (λ f. inr (ap (λ a. a.read) (stab_on_sound m s k) ∙ rw f))
-      (passes_or_fails (eqb (stab_refusal true k) 0))
+  accepted = stab_on_sound m s k ∙ accepted_answers (stab_refusal true k) no_stab (stab_of (said_profile m) k) ((stab_accepted true k).1 (refl, on_line))
 
-  -- so marks met equal the count at every key, refused or not
+  pub stab_exact : ((stab_in m k).refusal ≡ 0) × ExactStab (said_profile m) k (stab_in m k).read
+  stab_exact = rw accepted (refl, exact (said_profile m) k (said_stands m s))
+
+  -- .. among it: marks met equal the count, ..
   pub met_is_count : (stab_in m k).read.met ≡ (stab_in m k).read.count
-  met_is_count =
-      ⊎_elim (λ a. (stab_exact a.0 a.1).1.met) (λ zeros. ap (λ r. r.met) zeros ∙ sym (ap (λ r. r.count) zeros)) answered_or_zeros
+  met_is_count = stab_exact.1.met
 
-  -- and a number is flagged at a key exactly when the key is on the line, its reading below 1,023, and a live band of that number holds it
-  pub flagged_exactly : (n : ℕ) → n < flag_count
-      → (flag_at (stab_in m k).read.flags n ≡ 1) ↔ ((k ≤ highest_key) × Plugged k × HeldBy (said_profile m) k n)
-  flagged_exactly n h = (
-    λ flag. ⊎_elim (λ a. (a.0, a.1, ((stab_exact a.0 a.1).1.flags n h).0 flag)) (λ zeros. absurd (none zeros flag)) answered_or_zeros,
-    λ held. ((stab_exact held.0 held.1).1.flags n h).1 held.2,
-  )
-    where
-      none : (stab_in m k).read ≡ no_stab → flag_at (stab_in m k).read.flags n ≡ 1 → ⊥
-      none zeros flag =
-          (flag_set_where_in [] n h).0 (ap (λ ws. flag_at ws n) flags_of_none ∙ sym (ap (λ r. flag_at r.flags n) zeros) ∙ flag)
+  -- .. and the looks are 8 plus the nodes below the key with no taller node between them and it
+  pub looks_are_the_papers : (stab_in m k).read.looks ≡ looks (said_profile m) k
+  looks_are_the_papers = stab_exact.1.looks

@@ -1,4 +1,4 @@
--- The stab on any memory: 1 (sizes), 4, 18, else what the search over node and mark words finds. No band word is read.
+-- The stab on any memory: 1 (sizes), 4, else what the search over node and mark words finds. No band word is read.
 -- Assumes nothing.
 use Rattle.std.specs.Prelude.{ℕ, length}
 use Rattle.rules.specs.Flags.{flags_of, count_of}

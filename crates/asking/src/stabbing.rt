@@ -7,7 +7,7 @@ ghost use Rattle.store.specs.Came.{asked, telling};
 ghost use Rattle.asking.specs.StabCall.{stab_in};
 ghost use Rattle.asking.specs.Says.{stab_says};
 
-use crate::judging::judge_stab;
+use crate::judging::judge_key;
 use hall::{Answer, Key, Refusal, StabRead};
 
 // Of the bands only the length is looked at: what is marked is what stands among nodes and marks.
@@ -15,7 +15,7 @@ pub fn stab(bands: &[u32], nodes: &[u32], marks: &[u32], key: Key) -> StabRead
     ensures { asked (stab_says result) bands.now nodes.now marks.now
         ≡ telling (λ m. stab_in m key.0) (lent bands.now nodes.now marks.now) }
 {
-    match judge_stab(bands, nodes, marks, key) {
+    match judge_key(bands, nodes, marks, key) {
         Answer::Refused(refusal) => refused(refusal),
         Answer::Done => {
             let found = search::search(nodes, marks, key);

@@ -1,7 +1,6 @@
 -- What the card's answer means, of any answer that meets the promise: it says 0 exactly where key and card are right, and then a flag stands
 -- exactly where a record of that number holds the key, and the count is how many records do; where something is bad flags and count are zero,
--- and what is told is 4 with place 0 of a key above the line, 18 with place 0 of an open line's key, else the fault and the place of the first bad
--- record. Assumes nothing.
+-- and what is told is 4 with place 0 of a key above the line, else the fault and the place of the first bad record. Assumes nothing.
 use Prim.Native.Nat.{ℕ, ◌+◌, ◌≤◌, ◌<◌}
 use native.Mathlib.Omega.{arith}
 use mathlib.Core.Path.{◌≡◌, refl, sym, ap, ◌∙◌}
@@ -17,21 +16,19 @@ use Rattle.rules.specs.Flags.{flag_count, flag_at}
 use Rattle.rules.specs.BoxSaysNo.{band_lines, band_fault}
 use Rattle.rules.specs.BenchCard.{Scan as RuledScan, Bad, bad, record_fault, card_bad, scan_of}
 use Rattle.rules.proofs.Means.{passes_or_fails, denied, at_most_or_above}
-use Rattle.rules.proofs.OpenLine.{Open, Plugged, plugged_or_open}
 use Rattle.rules.proofs.Lists.{In, Some, member_means, in_map}
 use Rattle.rules.proofs.Marks.{numbers_of}
 use Rattle.rules.proofs.FirstLine.{ordered_from, Lowest, lowest_given}
 use Rattle.rules.proofs.BoxSaysNo.{BandRight, band_fault_zero}
 use Rattle.rules.proofs.Zeros.{sixteen_zeros, no_flags_zeros}
-use Rattle.rules.proofs.BenchCard.{record_fault_zero, record_fault_of_band, record_fault_twice, CardRight, FirstBad, right_or_bad, card_key_bad, card_key_open, card_first_bad, card_bad_zero, card_gives_18, scan_tells, scan_zeros, scan_right, scan_flag, scan_count}
+use Rattle.rules.proofs.BenchCard.{record_fault_zero, record_fault_of_band, record_fault_twice, CardRight, FirstBad, right_or_bad, card_key_bad, card_first_bad, card_bad_zero, scan_tells, scan_zeros, scan_right, scan_flag, scan_count}
 use Rattle.hall.specs.Says.{answer_says}
 use Rattle.card.specs.Says.{scan_says}
 use Rattle.card.specs.declared.pass.Scan.{Scan}
 
--- the key is on the line and its reading below 1,023, each record is right by 2 to 6, no number stands twice, and nothing is told but the records that hold the key
+-- the key is on the line, each record is right by 2 to 6, no number stands twice, and nothing is told but the records that hold the key
 pub record ExactScan (records : List Band) (k : ℕ) (said : RuledScan) : Type 0 where
   pub key_on_line : k ≤ highest_key
-  pub key_plugged : Plugged k
   pub card_right : CardRight records
   pub no_place : said.place ≡ 0
   pub flags_exact : (n : ℕ) → n < flag_count → (flag_at said.flags n ≡ 1) ↔ Some (λ b. (holds b k ≡ true) × (b.number ≡ n)) records
@@ -121,23 +118,22 @@ module _ (records : List Band) where
 -- ---- what the rules' scan says
 
 module _ (records : List Band) (k : ℕ) where
-  accepted : ((scan_of records k).refusal ≡ 0) ↔ ((k ≤ highest_key) × Plugged k × CardRight records)
+  accepted : ((scan_of records k).refusal ≡ 0) ↔ ((k ≤ highest_key) × CardRight records)
   accepted = rw (scan_tells records k).0 (card_bad_zero records k)
 
   exact : (scan_of records k).refusal ≡ 0 → ExactScan records k (scan_of records k)
   exact z =
-      let all = accepted.0 z in
+      let both = accepted.0 z in
       record {
-        key_on_line = all.0;
-        key_plugged = all.1;
-        card_right = all.2;
-        no_place = ap (λ (s : RuledScan). s.place) (scan_right records k all.0 all.1 all.2);
-        flags_exact = scan_flag records k all.0 all.1 all.2;
-        count_exact = scan_count records k all.0 all.1 all.2;
+        key_on_line = both.0;
+        card_right = both.1;
+        no_place = ap (λ (s : RuledScan). s.place) (scan_right records k both.0 both.1);
+        flags_exact = scan_flag records k both.0 both.1;
+        count_exact = scan_count records k both.0 both.1;
       }
 
 module _ (records : List Band) (k : ℕ) (r : Scan) (meets : scan_says r ≡ scan_of records k) where
-  pub accepted_where_right : (answer_says r.answer ≡ 0) ↔ ((k ≤ highest_key) × Plugged k × CardRight records)
+  pub accepted_where_right : (answer_says r.answer ≡ 0) ↔ ((k ≤ highest_key) × CardRight records)
   accepted_where_right = rw (ap (λ (s : RuledScan). s.refusal) meets) (accepted records k)
 
   pub scan_exact : answer_says r.answer ≡ 0 → ExactScan records k (scan_says r)
@@ -161,39 +157,27 @@ module _ (records : List Band) (k : ℕ) (r : Scan) (meets : scan_says r ≡ sca
   pub key_above_told : highest_key < k → (answer_says r.answer ≡ 4) × (r.place ≡ 0)
   key_above_told above = told (bad 4 0) (card_key_bad records k above)
 
-  -- an open line's key by 18, with place 0, whatever the records
-  pub key_open_told : k ≤ highest_key → Open k → (answer_says r.answer ≡ 18) × (r.place ≡ 0)
-  key_open_told on_line is_open = told (bad 18 0) (card_key_open records k on_line is_open)
+  -- with a key on the line the first bad record is told, by its fault and its place ..
+  pub first_bad_record_told : k ≤ highest_key → (fault place : ℕ) → FirstBadRecord records fault place
+      → (answer_says r.answer ≡ fault) × (r.place ≡ place)
+  unfolding as_ruled
+  first_bad_record_told on_line fault place w =
+      let t = told _ (card_first_bad records k on_line (as_ruled records fault place w)) in
+      (t.0 ∙ (fault_as_ruled w.before w.here fault w.fault_here).0, t.1 ∙ sym w.place_here)
 
-  -- .. and no other key by 18
-  pub open_told_exactly : (answer_says r.answer ≡ 18) ↔ ((k ≤ highest_key) × Open k)
-  open_told_exactly = rw (ap (λ (s : RuledScan). s.refusal) meets ∙ (scan_tells records k).0) (card_gives_18 records k)
-
-  module _ (on_line : k ≤ highest_key) (plugged : Plugged k) where
-    -- with a key on the line whose reading is below 1,023 the first bad record is told, by its fault and its place ..
-    pub first_bad_record_told : (fault place : ℕ) → FirstBadRecord records fault place → (answer_says r.answer ≡ fault) × (r.place ≡ place)
-    unfolding as_ruled
-    first_bad_record_told fault place w =
-        let t = told _ (card_first_bad records k on_line plugged (as_ruled records fault place w)) in
-        (t.0 ∙ (fault_as_ruled w.before w.here fault w.fault_here).0, t.1 ∙ sym w.place_here)
-
-    found : (answer_says r.answer ≡ 0 → ⊥) → FirstBadRecord records (answer_says r.answer) r.place
-    found h =
-        ⊎_elim
-        (λ right. absurd (h (accepted_where_right.1 (on_line, plugged, right.0))))
-        (λ w. let t = told _ (card_first_bad records k on_line plugged w) in rw (t.0, t.1) (in_plain_words records w))
-        (right_or_bad [] records)
-
-  -- .. and any number but 0 is told for one of these three
+  -- .. and any number but 0 is told for one of these two
   pub refusal_explained : (answer_says r.answer ≡ 0 → ⊥)
       → ((highest_key < k) × (answer_says r.answer ≡ 4) × (r.place ≡ 0))
-      ⊎ (((k ≤ highest_key) × Open k × (answer_says r.answer ≡ 18) × (r.place ≡ 0))
-      ⊎ ((k ≤ highest_key) × Plugged k × FirstBadRecord records (answer_says r.answer) r.place))
+      ⊎ ((k ≤ highest_key) × FirstBadRecord records (answer_says r.answer) r.place)
   refusal_explained h =
       ⊎_elim
-      (λ on_line. inr (⊎_elim
-      (λ plugged. inr (on_line, plugged, found on_line plugged h))
-      (λ is_open. let t = key_open_told on_line is_open in inl (on_line, is_open, t.0, t.1))
-      (plugged_or_open k)))
-      (λ above. let t = key_above_told above in inl (above, t.0, t.1))
+      (λ on_line. inr (on_line, found on_line))
+      (λ above. inl (above, (key_above_told above).0, (key_above_told above).1))
       (at_most_or_above k highest_key)
+    where
+      found : k ≤ highest_key → FirstBadRecord records (answer_says r.answer) r.place
+      found on_line =
+          ⊎_elim
+          (λ right. absurd (h (accepted_where_right.1 (on_line, right.0))))
+          (λ w. let t = told _ (card_first_bad records k on_line w) in rw (t.0, t.1) (in_plain_words records w))
+          (right_or_bad [] records)

@@ -12,7 +12,7 @@ use lib.Dec.{eqb}
 use Rattle.rules.specs.Lists.{add_if, member, sum_of}
 use Rattle.rules.specs.HallLine.{Band, holds}
 use Rattle.rules.specs.Flags.{flags_of}
-use Rattle.rules.specs.BoxSaysNo.{line, band_lines, band_fault, stab_fault, no_flags}
+use Rattle.rules.specs.BoxSaysNo.{line, band_lines, band_fault, key_fault, no_flags}
 use Rattle.rules.specs.BenchCard.{Bad, bad, Scan, record_fault, first_bad, card_bad, scanned, scan_of}
 use Rattle.rules.proofs.FirstLine.{refusal_then}
 use Rattle.rules.proofs.BoxSaysNo.{band_fault_zero}
@@ -154,32 +154,32 @@ told_card w true ns = told_flags w ns
 told_card w false ns = told_flags w []
 
 module _ (cards : List Band) (k : ℕ) where
-  begins_right : stab_fault k ≡ 0 → begin_of k ≡ right [] no_flags
+  begins_right : key_fault k ≡ 0 → begin_of k ≡ right [] no_flags
   unfolding begin_of right
   begins_right z = rw (z, flags_of_none)
 
-  scan_by_records : stab_fault k ≡ 0
+  scan_by_records : key_fault k ≡ 0
       → scan_of cards k
       ≡ scanned (first_bad [] 1 cards) (cond (eqb (first_bad [] 1 cards).refusal 0) (numbers_holding cards k) [])
   unfolding scan_of card_bad
   scan_by_records z = rw z
 
-  scan_by_key : (stab_fault k ≡ 0 → ⊥) → scan_of cards k ≡ scanned (bad (stab_fault k) 0) []
+  scan_by_key : (key_fault k ≡ 0 → ⊥) → scan_of cards k ≡ scanned (bad (key_fault k) 0) []
   unfolding scan_of card_bad
-  scan_by_key h = simp (ne_eqb (stab_fault k) 0 h)
+  scan_by_key h = simp (ne_eqb (key_fault k) 0 h)
 
   -- what is told after the pass over the card is what the rules say of it
   pub pass_is_scan : told_of (pass_over (begin_of k) 1 cards k) ≡ scan_of cards k
   unfolding begin_of told_with
-  pass_is_scan = go (eqb (stab_fault k) 0) refl
+  pass_is_scan = go (eqb (key_fault k) 0) refl
     where
-      go : (t : Bool) → eqb (stab_fault k) 0 ≡ t → told_of (pass_over (begin_of k) 1 cards k) ≡ scan_of cards k
+      go : (t : Bool) → eqb (key_fault k) 0 ≡ t → told_of (pass_over (begin_of k) 1 cards k) ≡ scan_of cards k
       go true e =
-          let z = eqb-true (stab_fault k) 0 e in
+          let z = eqb-true (key_fault k) 0 e in
           ap (λ (p : Pass). told_of (pass_over p 1 cards k)) (begins_right z)
           ∙ told_from k [] no_flags 1 cards
           ∙ told_card (first_bad [] 1 cards) (eqb (first_bad [] 1 cards).refusal 0) (numbers_holding cards k)
           ∙ sym (scan_by_records z)
       go false e =
-          let h = eqb-false (stab_fault k) 0 e in
-          ap told_of (pass_wrong (begin_of k) 1 cards k h) ∙ told_flags (bad (stab_fault k) 0) [] ∙ sym (scan_by_key h)
+          let h = eqb-false (key_fault k) 0 e in
+          ap told_of (pass_wrong (begin_of k) 1 cards k h) ∙ told_flags (bad (key_fault k) 0) [] ∙ sym (scan_by_key h)

@@ -5,7 +5,7 @@ use Rattle.std.specs.Prelude.{ℕ, ◌+◌, cond, List, [], ◌∷◌, eqb}
 use Rattle.std.specs.Int.Count.{ones}
 use Rattle.rules.specs.Lists.{sum_of}
 use Rattle.rules.specs.HallLine.{Band, holds}
-use Rattle.rules.specs.BoxSaysNo.{stab_fault, band_fault, no_flags}
+use Rattle.rules.specs.BoxSaysNo.{key_fault, band_fault, no_flags}
 use Rattle.rules.specs.BenchCard.{Scan}
 use Rattle.flags.specs.FlagWords.{with_flag, flag_is_set}
 
@@ -20,9 +20,9 @@ pub record Pass : Type 0 where
 abbrev pub bare : ℕ → ℕ → Pass
 bare refusal place = record { refusal = refusal; place = place; seen = no_flags; flags = no_flags }
 
--- the key is judged by 4, then 18, before the records, with place 0
+-- the key is judged before the records, with place 0
 unfoldable pub begin_of : ℕ → Pass
-begin_of k = bare (stab_fault k) 0
+begin_of k = bare (key_fault k) 0
 
 -- a record is judged by 2 to 6, then by 8, where its number was seen
 unfoldable pub judge_of : List ℕ → Band → ℕ

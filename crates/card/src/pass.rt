@@ -27,11 +27,11 @@ pub(crate) struct Pass {
 }
 
 impl Pass {
-    // The key is judged before the records, by 4, then 18.
+    // The key is judged before the records.
     pub(crate) fn begin(key: Key) -> Pass
         ensures { pass_says result ≡ begin_of key.0 }
     {
-        Pass::bare(key.stab_fault(), 0)
+        Pass::bare(key.fault(), 0)
     }
 
     // Whether nothing is wrong so far.

@@ -1,5 +1,5 @@
--- From an empty profile in any memory of right sizes, after any calls: memory is sound, the profile that it says stands, a stab at a key whose reading is
--- below 1,023 flags exactly the live bands that hold it and any other is refused by 18, and in the edge and node readouts a number is flagged exactly where the rule marks a live band of that number, for every
+-- From an empty profile in any memory of right sizes, after any calls: memory is sound, the profile that it says stands, a stab flags exactly the live
+-- bands that hold the key, and in the edge and node readouts a number is flagged exactly where the rule marks a live band of that number, for every
 -- node, lane, edge and number; marks in use are the rule's own count.
 -- Assumes nothing.
 use Prim.Native.Nat.{ℕ, ◌≤◌}
@@ -13,7 +13,6 @@ use Rattle.rules.specs.Readouts.{band_read_of}
 use Rattle.rules.specs.BoxSaysNo.{saying}
 use Rattle.rules.specs.Calls.{Call}
 use Rattle.rules.proofs.Lists.{Each}
-use Rattle.rules.proofs.OpenLine.{Open, Plugged}
 use Rattle.rules.proofs.SoundMemory.{Standing}
 use Rattle.store.specs.Sizes.{sizes_right}
 use Rattle.store.specs.Memory.{Memory, lengths_in}
@@ -25,7 +24,6 @@ use Rattle.asking.specs.BandCall.{band_in}
 use Rattle.asking.specs.StabCall.{stab_in}
 use Rattle.demands.specs.Calls.{after_call, after_calls}
 use Rattle.emptying.proofs.EmptyExact.{empty_makes}
-use Rattle.asking.proofs.AskingRefused.{stab_refused_exactly}
 use Rattle.asking.proofs.StabExact.{ExactStab, stab_exact}
 use Rattle.asking.proofs.BandExact.{band_exact, band_refused_9}
 use Rattle.asking.proofs.MarkedByRule.{MarkedByRule, marked_by_rule}
@@ -45,11 +43,8 @@ pub record Kept (m w : Memory) : Type 0 where
   pub marked : MarkedByRule w
   -- nodes stand at each end of a live band and nowhere else, in key order, with levels 1 to 8; live bands are right by themselves, in number order
   pub stands : Standing (said_profile w)
-  -- at every key of the line whose reading is below 1,023 a stab flags exactly the live bands that hold it; marks met equal the count, and the looks are
-  -- the paper's
-  pub stabs : (k : ℕ) → k ≤ highest_key → Plugged k → ((stab_in w k).refusal ≡ 0) × ExactStab (said_profile w) k (stab_in w k).read
-  -- and at exactly the other keys of the line it is refused by 18
-  pub open_lines : (k : ℕ) → ((stab_in w k).refusal ≡ 18) ↔ ((k ≤ highest_key) × Open k)
+  -- at every key of the line a stab flags exactly the live bands that hold it; marks met equal the count, and the looks are the paper's
+  pub stabs : (k : ℕ) → k ≤ highest_key → ((stab_in w k).refusal ≡ 0) × ExactStab (said_profile w) k (stab_in w k).read
 
 -- a sound memory of the same lengths is such
 kept : (m w : Memory) → lengths_in w ≡ lengths_in m → sound w ≡ true → Kept m w
@@ -63,7 +58,6 @@ kept m w l s =
       marked = marked_by_rule w s;
       stands = said_stands w s;
       stabs = stab_exact w s;
-      open_lines = λ k. let given = (stab_refused_exactly w k).gives_18 in (λ e. ((given.0 e).1, (given.0 e).2), λ h. given.1 (right, h.0, h.1));
     }
 
 calls_keep_sound : (w : Memory) → sound w ≡ true → (cs : List Call) → sound (after_calls w cs) ≡ true

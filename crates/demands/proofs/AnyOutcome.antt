@@ -89,7 +89,7 @@ pub record InsertOutcome (m : Memory) (b : Band) (lo hi : ℕ) (o : Change Memor
   pub leaves : o.refusal ≡ 0 → LeavesSound m (inserted (said_profile m) b lo hi) o.after
   -- .. and the band lives as given
   pub lives : o.refusal ≡ 0 → band_in o.after b.number ≡ saying 0 (band_read_of (some b))
-  -- .. and is found by stabs at the keys that it holds with readings below 1,023, and at no other
+  -- .. and is found by stabs at the keys that it holds, and at no other
   pub found : o.refusal ≡ 0 → FoundWhereHeld o.after b
   -- every other number's readout stays
   pub no_other : (number : ℕ) → (number ≡ b.number → ⊥) → band_in o.after number ≡ band_in m number

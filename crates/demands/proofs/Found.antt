@@ -1,19 +1,17 @@
--- By the stab: after an accepted insert the band's number is flagged at every key that the band holds and whose reading is below 1,023, and at no other
--- key; after an accepted remove it is flagged at no key. On any memory: what is accepted was sound.
+-- By the stab: after an accepted insert the band's number is flagged at every key that the band holds and at no other, and after an accepted remove the
+-- number is flagged nowhere. On any memory: what is accepted was sound.
 -- Assumes nothing.
-use Prim.Native.Nat.{ℕ, ◌<◌}
+use Prim.Native.Nat.{ℕ, ◌≤◌, ◌<◌}
 use mathlib.Core.Path.{◌≡◌, refl, sym, subst}
 use mathlib.Core.Bool.{true}
 use mathlib.Core.Logic.Iff
 use mathlib.Core.Logic.{◌↔◌, inl}
 use native.Mathlib.Omega.{arith}
-use Rattle.rules.specs.HallLine.{Band, holds}
+use Rattle.rules.specs.HallLine.{Band, highest_key, holds}
 use Rattle.rules.specs.Profile.{Profile}
 use Rattle.rules.specs.Changes.{inserted, removed}
 use Rattle.rules.specs.Flags.{flag_count, flag_at}
 use Rattle.rules.proofs.Lists.{Each, ascends_once}
-use Rattle.rules.proofs.HallLine.{held_between}
-use Rattle.rules.proofs.OpenLine.{Plugged}
 use Rattle.rules.proofs.Changes.{in_inserted_bands, in_removed_bands}
 use Rattle.store.specs.Memory.{Memory}
 use Rattle.store.specs.SaidProfile.{said_profile}
@@ -22,39 +20,37 @@ use Rattle.store.specs.ChangeIn.{change_in}
 use Rattle.store.proofs.SaidStands.{said_stands}
 use Rattle.store.proofs.ChangeIn.{Fitting, change_leaves}
 use Rattle.asking.specs.StabCall.{stab_in}
-use Rattle.asking.proofs.StabExact.{flagged_exactly}
+use Rattle.asking.proofs.StabExact.{stab_exact}
 use Rattle.inserting.specs.InsertCall.{insert_refusal_in, insert_in}
 use Rattle.inserting.proofs.Accepted.{insert_fitting}
 use Rattle.removing.specs.RemoveCall.{remove_refusal_in, remove_in}
 use Rattle.removing.proofs.Accepted.{remove_fitting, remove_unrefused}
 
--- whatever the key, a stab flags the band's number exactly if the band holds the key and its reading is below 1,023
+-- at each key of the line a stab flags the band's number exactly if the band holds the key
 abbrev pub FoundWhereHeld : Memory → Band → Type 0
-FoundWhereHeld w b = (k : ℕ) → (flag_at (stab_in w k).read.flags b.number ≡ 1) ↔ ((holds b k ≡ true) × Plugged k)
+FoundWhereHeld w b = (k : ℕ) → k ≤ highest_key → (flag_at (stab_in w k).read.flags b.number ≡ 1) ↔ (holds b k ≡ true)
 
 -- no stab flags the number
 abbrev pub FoundNowhere : Memory → ℕ → Type 0
-FoundNowhere w number = (k : ℕ) → flag_at (stab_in w k).read.flags number ≡ 1 → ⊥
+FoundNowhere w number = (k : ℕ) → k ≤ highest_key → flag_at (stab_in w k).read.flags number ≡ 1 → ⊥
 
 -- ---- on sound memory
 
 module _ (w : Memory) (s : sound w ≡ true) where
   -- every live band is found where it holds, ..
   pub live_found : Each (FoundWhereHeld w) (said_profile w).bands
-  live_found b i k =
+  live_found b i k on_line =
       let stands = said_stands w s in
-      let right = stands.bands_right_lem b i in
-      let in_range : b.number < flag_count = omega (arith, right.number_right) in
-      let one = ascends_once (λ x. x.number) 0 (said_profile w).bands stands.numbers_ascend_lem in
-      Iff.trans (flagged_exactly w s k b.number in_range) (
-        λ h. let held = h.2 in (subst (λ c. holds c k ≡ true) (one held.0 b held.1 i held.2.1) held.2.0, h.1),
-        λ h. (omega (arith, held_between b k h.0, right.high_on_line), h.1, (b, i, (h.0, refl))),
+      let in_range : b.number < flag_count = omega (arith, (stands.bands_right_lem b i).number_right) in
+      Iff.trans ((stab_exact w s k on_line).1.flags b.number in_range) (
+        λ h. subst (λ c. holds c k ≡ true) (ascends_once (λ x. x.number) 0 (said_profile w).bands stands.numbers_ascend_lem h.0 b h.1 i h.2.1) h.2.0,
+        λ h. (b, i, (h, refl)),
       )
 
   -- .. and a number that is not live is found nowhere
   pub not_live_lost : (number : ℕ) → number < flag_count → Each (λ b. b.number ≡ number → ⊥) (said_profile w).bands → FoundNowhere w number
-  not_live_lost number in_range free k flag =
-      let held = ((flagged_exactly w s k number in_range).0 flag).2 in free held.0 held.1 held.2.1
+  not_live_lost number in_range free k on_line flag =
+      let h = ((stab_exact w s k on_line).1.flags number in_range).0 flag in free h.0 h.1 h.2.1
 
 -- ---- every change that is accepted
 

@@ -3,7 +3,7 @@
 --   RefusedExactly    a call answers the first line of its own that applies, and 0 exactly when none does
 --   RefusedUnchanged  refused, a change leaves all memory as it was
 --   Lives             an accepted insert makes the band live as given, a remove ends it, and no other band changes
---   Found             an inserted band is found by stabs at the keys that it holds with readings below 1,023 and at no other, a removed one nowhere
+--   Found             an inserted band is found by stabs at the keys that it holds and at no other, a removed one nowhere
 --   LevelStays        a node keeps its level while it stands; a made one has the level given
 --   Alone             a call of one machine leaves flags, count and marks met the same at every other machine's keys
 --   Local             other bands keep their marks outside the reaches, and gain none there
@@ -14,7 +14,7 @@
 --   NotAlwaysRefused  a one-key band is inserted into an empty profile, and removed again, in every room
 --   Witnesses         something is there that a wrong box could not show: keys whose stabs differ, a mark in lane 2 alone, two bands marked on an edge or on a node
 --   MarksAlone        bands are found and read by node and mark words, whatever the list of bands has
---   AlwaysSound       after any calls memory is sound, stabs are exact or refused by 18 and the readouts show exactly what the rule marks
+--   AlwaysSound       after any calls memory is sound, stabs are exact and the readouts show exactly what the rule marks
 --   AlwaysRuled       .. and memory is the one memory of the profile that the rules come to by those calls
 -- In Lives, Found, LevelStays, Alone and Local each law is proved once, of every change (`change-..`); insert and remove are instances.
 -- What these are proved with:

@@ -3,7 +3,7 @@ use crate::writing;
 
 const REFUSAL_WIDTH: usize = 51;
 
-const REFUSAL_COUNT: usize = 15;
+const REFUSAL_COUNT: usize = 14;
 
 const FAULT_WIDTH: usize = 27;
 
@@ -17,7 +17,7 @@ const FAULTS: usize = REFUSAL_WIDTH * REFUSAL_COUNT;
 
 const NAMES: usize = FAULTS + FAULT_WIDTH * FAULT_COUNT;
 
-// A row for each refusal, in the order of the numbers, with its number before its words. Then one for each fault, in the order of its numbers in
+// A row for each refusal, in the order of the paper's numbers, with its number before its words. Then one for each fault, in the order of its numbers in
 // `desk_lines`. Then the names, as help tells them: each once, a command that is said in two words by its first.
 const TEXTS: [u8; NAMES + 101] = *b"\
     0  done.                                           \
@@ -34,7 +34,6 @@ const TEXTS: [u8; NAMES + 101] = *b"\
     11 nodes after the call would exceed the node room.\
     12 marks after the call would exceed the mark room.\
     13 no node at the key, or it has no such lane.     \
-    18 open line.                                      \
     0  nothing is wrong.       \
     1  line too long.          \
     2  no such command.        \
@@ -53,18 +52,11 @@ const TEXTS: [u8; NAMES + 101] = *b"\
 
 // Where the text starts that a byte of a form stands for, beside a value.
 fn start_of(byte: u8, number: u8) -> usize {
+    let place = number as usize;
     match byte {
-        b'$' => refusal_row(number) as usize * REFUSAL_WIDTH + NUMBER_WIDTH,
-        b'!' => FAULTS + number as usize * FAULT_WIDTH + NUMBER_WIDTH,
+        b'$' => place * REFUSAL_WIDTH + NUMBER_WIDTH,
+        b'!' => FAULTS + place * FAULT_WIDTH + NUMBER_WIDTH,
         _ => NAMES,
-    }
-}
-
-// The row of a refusal: no call is refused by 14 to 17, so the row of 18 stands after that of 13.
-fn refusal_row(number: u8) -> u8 {
-    match number {
-        18 => 14,
-        _ => number,
     }
 }
 

@@ -7,6 +7,7 @@ use mathlib.Core.Option.{Option, none, some}
 use Prim.Native.Nat.{ℕ}
 use native.Mathlib.Omega.{arith}
 use lib.Dec.{eqb}
+use lib.ListN.{get_or}
 use Rattle.hall.specs.Says.{refusal_says, answer_says, MaybeKey, key_said, next_says, made_says}
 use Rattle.hall.specs.declared.answers.Refusal.{Refusal}
 use Rattle.hall.specs.declared.answers.Answer.{Answer}
@@ -18,7 +19,7 @@ read_back : {A B : Type 0} (says : A → B) (back : B → A) → ((a : A) → ba
     → (a b : A) → says a ≡ says b → a ≡ b
 read_back says back found a b e = sym (found a) ∙ ap back e ∙ found b
 
--- each answer
+-- each answer, at the place of its number
 answers : List Answer
 answers =
     Answer.Done
@@ -35,16 +36,10 @@ answers =
     ∷ Answer.Refused Refusal.NodesExceed
     ∷ Answer.Refused Refusal.MarksExceed
     ∷ Answer.Refused Refusal.NoNodeOrLane
-    ∷ Answer.Refused Refusal.LineOpen
     ∷ []
 
--- the first of some answers that says the number: the numbers have gaps, so an answer is found by what it says and not by its place
-saying : ℕ → List Answer → Answer
-saying n [] = Answer.Done
-saying n (a ∷ others) = cond (eqb (answer_says a) n) a (saying n others)
-
-answer_found : (a : Answer) → saying (answer_says a) answers ≡ a
-unfolding answers saying
+answer_found : (a : Answer) → get_or answers (answer_says a) Answer.Done ≡ a
+unfolding answers
 answer_found Answer.Done = refl
 answer_found (Answer.Refused Refusal.MemoryUnfit) = refl
 answer_found (Answer.Refused Refusal.ScopeAbove) = refl
@@ -59,10 +54,9 @@ answer_found (Answer.Refused Refusal.ScopeOther) = refl
 answer_found (Answer.Refused Refusal.NodesExceed) = refl
 answer_found (Answer.Refused Refusal.MarksExceed) = refl
 answer_found (Answer.Refused Refusal.NoNodeOrLane) = refl
-answer_found (Answer.Refused Refusal.LineOpen) = refl
 
 pub answer_one_to_one : (a b : Answer) → answer_says a ≡ answer_says b → a ≡ b
-answer_one_to_one = read_back answer_says (λ (n : ℕ). saying n answers) answer_found
+answer_one_to_one = read_back answer_says (λ (n : ℕ). get_or answers n Answer.Done) answer_found
 
 pub refusal_one_to_one : (r s : Refusal) → refusal_says r ≡ refusal_says s → r ≡ s
 refusal_one_to_one r s e =

@@ -18,7 +18,6 @@ use Rattle.hall.proofs.answers.Answer.number.Reads.{Post as answer_number_promis
 use Rattle.hall.proofs.keys.Key.first_of.Reads.{Post as first_of_promise}
 use Rattle.hall.proofs.keys.Key.of.Reads.{Post as key_of_promise}
 use Rattle.hall.proofs.keys.Key.fault.Reads.{Post as key_fault_promise}
-use Rattle.hall.proofs.keys.Key.stab_fault.Reads.{Post as stab_fault_promise}
 use Rattle.hall.proofs.bands.Band.holds.Reads.{Post as holds_promise}
 use Rattle.hall.proofs.bands.Band.fault.Reads.{Post as band_fault_promise}
 use Rattle.hall.proofs.bands.Band.fault_with.Reads.{Post as fault_with_promise}
@@ -40,9 +39,6 @@ module _ (κs : Lfts 0) where
 
   pub key_fault_settled : (given x y : Key × Unit {0}) (a b : Answer) → key_fault_promise κs given a x → key_fault_promise κs given b y → a ≡ b
   key_fault_settled given x y a b p q = answer_one_to_one a b (p ∙ sym q)
-
-  pub stab_fault_settled : (given x y : Key × Unit {0}) (a b : Answer) → stab_fault_promise κs given a x → stab_fault_promise κs given b y → a ≡ b
-  stab_fault_settled given x y a b p q = answer_one_to_one a b (p ∙ sym q)
 
   -- bands
   pub holds_settled : (given x y : Band × (Key × Unit {0})) (a b : Bool) → holds_promise κs given a x → holds_promise κs given b y → a ≡ b

@@ -8,7 +8,7 @@ use Rattle.hall.specs.declared.answers.Answer.{Answer}
 use Rattle.hall.specs.declared.answers.Next.{Next}
 use Rattle.hall.specs.declared.keys.Made.{Made}
 
--- the number of the refusal's line in the paper's table, or of the line that was requested after it
+-- the number of the refusal's line in the paper's table
 abbrev pub refusal_says : Refusal → ℕ
 refusal_says Refusal.MemoryUnfit = 1
 refusal_says Refusal.ScopeAbove = 2
@@ -23,7 +23,6 @@ refusal_says Refusal.ScopeOther = 10
 refusal_says Refusal.NodesExceed = 11
 refusal_says Refusal.MarksExceed = 12
 refusal_says Refusal.NoNodeOrLane = 13
-refusal_says Refusal.LineOpen = 18
 
 -- an accepted call answers 0, a refused one its refusal's number
 abbrev pub answer_says : Answer → ℕ

@@ -4,7 +4,7 @@ ghost use Rattle.hall.specs.Says.{refusal_says, answer_says};
 
 use crate::keys::Key;
 
-// Why the box says no: a case for each line of the paper's table, in its order, and for those requested after it.
+// Why the box says no: a case for each line of the paper's table, in its order.
 #[derive(Drop)]
 pub enum Refusal {
     MemoryUnfit,
@@ -20,7 +20,6 @@ pub enum Refusal {
     NodesExceed,
     MarksExceed,
     NoNodeOrLane,
-    LineOpen,
 }
 
 // What a call comes to.
@@ -56,7 +55,6 @@ impl Refusal {
             Refusal::NodesExceed => 11,
             Refusal::MarksExceed => 12,
             Refusal::NoNodeOrLane => 13,
-            Refusal::LineOpen => 18,
         }
     }
 }

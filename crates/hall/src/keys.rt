@@ -1,8 +1,7 @@
 // Keys on the hall line and readings in counts. The trade writes both as bare numbers; here each is a kind of its own.
 ghost use Rattle.std.specs.Prelude.{◌≡◌};
 ghost use Rattle.rules.specs.HallLine.{own_key};
-ghost use Rattle.rules.specs.OpenLine.{reading_in};
-ghost use Rattle.rules.specs.BoxSaysNo.{key_fault, stab_fault};
+ghost use Rattle.rules.specs.BoxSaysNo.{key_fault};
 ghost use Rattle.hall.specs.Says.{answer_says, made_says};
 ghost use Rattle.hall.specs.MadeKeys.{first_made, key_made};
 
@@ -21,11 +20,6 @@ pub struct Reading(pub u16);
 pub enum Made {
     At(Key),
     NoSuchKey,
-}
-
-impl Reading {
-    // What is read where a cable is unplugged: nobody stepped there.
-    pub const OPEN_LINE: Reading = Reading(1023);
 }
 
 impl Key {
@@ -77,29 +71,6 @@ impl Key {
         } else {
             Answer::Done
         }
-    }
-
-    // For a key that a stab or a scan is asked about: refused by 4, then by 18 where its reading is an open line's.
-    pub fn stab_fault(self) -> Answer
-        ensures { answer_says result ≡ stab_fault self.0 }
-    {
-        let above = Key::HIGHEST.0 < self.0;
-        let open = self.reading().0 == Reading::OPEN_LINE.0;
-        if above {
-            return Answer::Refused(Refusal::KeyAbove);
-        }
-        if open {
-            Answer::Refused(Refusal::LineOpen)
-        } else {
-            Answer::Done
-        }
-    }
-
-    // The reading in the key: what its machine and its sensor leave over.
-    fn reading(self) -> Reading
-        ensures { result.0 ≡ reading_in self.0 }
-    {
-        Reading((self.0 % Key::PER_SENSOR) as u16)
     }
 
     // Whether the key is among the machine's own.

@@ -9,22 +9,21 @@ use mathlib.Core.Logic.Iff
 use mathlib.Core.Logic.{◌↔◌, ◌⊎◌, inl, inr, ⊎_elim, ⊎_map}
 use mathlib.Core.List.{List, [], ◌∷◌, ◌++◌, append-nil, append_assoc}
 use native.Mathlib.Omega.{arith}
-use borrow.Author.Tests.{eqb-true, eqb-false, eq-eqb, ne_eqb, lt-ltb, le-ltb}
+use borrow.Author.Tests.{eqb-true, eqb-false, eq-eqb, ne_eqb, lt-ltb}
 use lib.Dec.{eqb}
 use lib.ListN.{length, take, drop, replicate, length-map, length-take, take-append-drop}
 use lib.Seq.{take_all}
 use Rattle.rules.specs.Lists.{member, count_if}
 use Rattle.rules.specs.HallLine.{Band, highest_key, holds}
 use Rattle.rules.specs.Flags.{flag_count, flag_at}
-use Rattle.rules.specs.BoxSaysNo.{line, key_above, line_open, band_lines, stab_fault, band_fault}
+use Rattle.rules.specs.BoxSaysNo.{line, key_above, band_lines, key_fault, band_fault}
 use Rattle.rules.specs.BenchCard.{bad, record_fault, first_bad, card_bad, scanned, scan_of}
 use Rattle.rules.proofs.Means.{passes_or_fails, itself, denied, same_means, lt_means, at_most_or_above}
-use Rattle.rules.proofs.OpenLine.{Open, Plugged, plugged_or_open}
 use Rattle.rules.proofs.Lists.{In, Some, Each, each_cons, all_means, member_means, Distinct, distinct_means, in_middle, in_map}
 use Rattle.rules.proofs.Marks.{in_numbers, numbers_of, length_of_numbers, numbers_stay_apart, numbers_holding}
 use Rattle.rules.proofs.Flags.{so_many_below, flag_set_where_in, count_without_repeats, flags_of_none, count_of_nothing}
-use Rattle.rules.proofs.FirstLine.{refusal_here, refusal_first, refusal_enough, refusal_without, refusal_zero, last_zero}
-use Rattle.rules.proofs.BoxSaysNo.{BandRight, numbers_right, line_open_means, band_lines_zero, stab_fault_zero, band_fault_zero}
+use Rattle.rules.proofs.FirstLine.{refusal_here, refusal_first, refusal_enough, refusal_zero, last_zero}
+use Rattle.rules.proofs.BoxSaysNo.{BandRight, numbers_right, band_lines_zero, key_fault_zero, band_fault_zero}
 
 -- ---- one record, after some numbers were seen
 
@@ -45,11 +44,6 @@ module _ (seen : List ℕ) (b : Band) where
   record_fault_twice r i =
       refusal_first (band_lines b) (line 8 (member b.number seen)) []
       ((refusal_zero (band_lines b) (omega arith)).0 ((band_fault_zero b).1 r)) ((member_means b.number seen).test i)
-
-  -- 18 is no fault of a record: only the key has it
-  pub record_fault_not_18 : record_fault seen b ≡ 18 → ⊥
-  unfolding record_fault
-  record_fault_not_18 = refusal_without 18 (band_lines b ++ line 8 (member b.number seen) ∷ []) (omega arith) (omega arith)
 
 -- the order in which numbers were seen plays no part
 fault_in_any_order : (x : ℕ) (xs ys : List ℕ) (b : Band) → record_fault (x ∷ xs ++ ys) b ≡ record_fault (xs ++ x ∷ ys) b
@@ -175,13 +169,6 @@ first_bad_zero seen place cards = (
   λ r. ap (λ b. b.refusal) (first_bad_none seen place cards r),
 )
 
-first_bad_not_18 : (seen : List ℕ) (place : ℕ) (cards : List Band) → (first_bad seen place cards).refusal ≡ 18 → ⊥
-first_bad_not_18 seen place cards z =
-    ⊎_elim
-    (λ r. omega (arith, ap (λ b. b.refusal) (first_bad_none seen place cards r)))
-    (λ w. record_fault_not_18 (seen ++ numbers_of w.before) w.here (sym (ap (λ b. b.refusal) (first_bad_told seen place cards w)) ∙ z))
-    (right_or_bad seen cards)
-
 -- where a record is bad those that come after play no part
 first_bad_stays : (seen : List ℕ) (place : ℕ) (cards more : List Band) → FirstBad seen cards
     → first_bad seen place (cards ++ more) ≡ first_bad seen place cards
@@ -194,53 +181,31 @@ first_bad_stays seen place cards more w =
 -- ---- the card and its key
 
 module _ (cards : List Band) (k : ℕ) where
-  -- the key is judged before the records, with place 0: by 4, ..
+  -- the key is judged before the records, with place 0
   pub card_key_bad : highest_key < k → card_bad cards k ≡ bad 4 0
-  unfolding card_bad stab_fault
-  card_key_bad l = rw (refusal_here (key_above k) (line_open k ∷ []) (lt-ltb highest_key k l))
+  unfolding card_bad key_fault
+  card_key_bad l = rw (refusal_here (key_above k) [] (lt-ltb highest_key k l))
 
-  -- .. then by 18
-  pub card_key_open : k ≤ highest_key → Open k → card_bad cards k ≡ bad 18 0
-  unfolding card_bad stab_fault
-  card_key_open l o = rw (le-ltb highest_key k l, (line_open_means k).test o)
+  pub card_records_bad : k ≤ highest_key → card_bad cards k ≡ first_bad [] 1 cards
+  unfolding card_bad
+  card_records_bad l = rw ((key_fault_zero k).1 l)
 
-  module _ (l : k ≤ highest_key) (p : Plugged k) where
-    pub card_records_bad : card_bad cards k ≡ first_bad [] 1 cards
-    unfolding card_bad
-    card_records_bad = rw ((stab_fault_zero k).1 (l, p))
+  -- the first bad place is counted from 1
+  pub card_first_bad : k ≤ highest_key → (w : FirstBad [] cards)
+      → card_bad cards k ≡ bad (record_fault (numbers_of w.before) w.here) (1 + length w.before)
+  card_first_bad l w = card_records_bad l ∙ first_bad_told [] 1 cards w
 
-    -- the first bad place is counted from 1
-    pub card_first_bad : (w : FirstBad [] cards) → card_bad cards k ≡ bad (record_fault (numbers_of w.before) w.here) (1 + length w.before)
-    card_first_bad w = card_records_bad ∙ first_bad_told [] 1 cards w
+  -- a right card and key: nothing is bad, and the place is 0
+  pub card_right : k ≤ highest_key → CardRight cards → card_bad cards k ≡ bad 0 0
+  card_right l r = card_records_bad l ∙ first_bad_none [] 1 cards (r, λ b i j. j)
 
-    -- a right card and key: nothing is bad, and the place is 0
-    pub card_right : CardRight cards → card_bad cards k ≡ bad 0 0
-    card_right r = card_records_bad ∙ first_bad_none [] 1 cards (r, λ b i j. j)
-
-    -- the records decide whether something is bad
-    card_zero : (card_bad cards k).refusal ≡ 0 → CardRight cards
-    card_zero z = ((first_bad_zero [] 1 cards).0 (sym (ap (λ b. b.refusal) card_records_bad) ∙ z)).0
-
-  pub card_bad_zero : ((card_bad cards k).refusal ≡ 0) ↔ ((k ≤ highest_key) × Plugged k × CardRight cards)
+  pub card_bad_zero : ((card_bad cards k).refusal ≡ 0) ↔ ((k ≤ highest_key) × CardRight cards)
   card_bad_zero = (
     λ z. ⊎_elim
-        (λ l. ⊎_elim
-        (λ p. (l, p, card_zero l p z))
-        (λ o. absurd (omega (arith, ap (λ b. b.refusal) (card_key_open l o))))
-        (plugged_or_open k))
+        (λ l. (l, ((first_bad_zero [] 1 cards).0 (sym (ap (λ b. b.refusal) (card_records_bad l)) ∙ z)).0))
         (λ l. absurd (omega (arith, ap (λ b. b.refusal) (card_key_bad l))))
         (at_most_or_above k highest_key),
-    λ h. ap (λ b. b.refusal) (card_right h.0 h.1 h.2),
-  )
-
-  -- 18 exactly for an open line's key, whatever the records
-  pub card_gives_18 : ((card_bad cards k).refusal ≡ 18) ↔ ((k ≤ highest_key) × Open k)
-  card_gives_18 = (
-    λ z. ⊎_elim
-        (λ l. ⊎_elim (λ p. absurd (first_bad_not_18 [] 1 cards (sym (ap (λ b. b.refusal) (card_records_bad l p)) ∙ z))) (λ o. (l, o)) (plugged_or_open k))
-        (λ l. absurd (omega (arith, ap (λ b. b.refusal) (card_key_bad l))))
-        (at_most_or_above k highest_key),
-    λ h. ap (λ b. b.refusal) (card_key_open h.0 h.1),
+    λ h. ap (λ b. b.refusal) (card_right h.0 h.1),
   )
 
 -- ---- flags and count
@@ -256,11 +221,11 @@ module _ (cards : List Band) (k : ℕ) where
   unfolding scan_of
   scan_zeros h = rw (ne_eqb (card_bad cards k).refusal 0 h) (flags_of_none, count_of_nothing)
 
-  module _ (l : k ≤ highest_key) (p : Plugged k) (r : CardRight cards) where
+  module _ (l : k ≤ highest_key) (r : CardRight cards) where
     -- .. and where nothing is bad those of the records that hold the key
     pub scan_right : scan_of cards k ≡ scanned (bad 0 0) (numbers_holding cards k)
     unfolding scan_of
-    scan_right = rw (card_right cards k l p r)
+    scan_right = rw (card_right cards k l r)
 
     pub scan_flag : (n : ℕ) → n < 1024 → (flag_at (scan_of cards k).flags n ≡ 1) ↔ Some (λ b. (holds b k ≡ true) × (b.number ≡ n)) cards
     scan_flag n h =
@@ -295,7 +260,7 @@ module _ (cards more : List Band) (k : ℕ) (w : FirstBad [] cards) where
   not_right : (card_bad cards k).refusal ≡ 0 → ⊥
   not_right z =
       let right = (card_bad_zero cards k).0 z in
-      let told = ap (λ b. b.refusal) (card_first_bad cards k right.0 right.1 w) in
+      let told = ap (λ b. b.refusal) (card_first_bad cards k right.0 w) in
       w.here_bad (sym told ∙ z)
 
   bad_as_first : card_bad (cards ++ more) k ≡ card_bad cards k

@@ -17,11 +17,10 @@ use Rattle.rules.specs.Profile.{Profile, is_live}
 use Rattle.rules.specs.Marks.{marks_in_use}
 use Rattle.rules.specs.Changes.{inserted, removed}
 use Rattle.rules.specs.Room.{Room, room_in_range}
-use Rattle.rules.specs.BoxSaysNo.{TableLine, refusal_by, sizes_wrong, not_sound, scope_above, number_above, key_above, end_above, holds_none, end_elsewhere, level_wrong, number_live, number_not_live, scope_other, nodes_exceed, marks_exceed, not_there, line_open, band_lines, key_fault, stab_fault, band_fault, fault_of, fit_lines, fit_refusal, insert_judged_lines, remove_judged_lines, insert_refusal, remove_refusal, empty_refusal, stab_refusal, key_refusal, band_read_refusal, edge_read_refusal, node_read_refusal, room_read_refusal, changed, saying, answered}
+use Rattle.rules.specs.BoxSaysNo.{TableLine, refusal_by, sizes_wrong, not_sound, scope_above, number_above, key_above, end_above, holds_none, end_elsewhere, level_wrong, number_live, number_not_live, scope_other, nodes_exceed, marks_exceed, not_there, band_lines, key_fault, band_fault, fault_of, fit_lines, fit_refusal, insert_judged_lines, remove_judged_lines, insert_refusal, remove_refusal, empty_refusal, stab_refusal, band_read_refusal, edge_read_refusal, node_read_refusal, room_read_refusal, changed, saying, answered}
 use Rattle.rules.proofs.Means.{Means, Fails, reworded, itself, denied, not_means, not_fails, and_means, and_fails, and3_means, or_means, or_fails, implies_fails, lt_means, lt_fails, le_means, le_fails, eq_means}
 use Rattle.rules.proofs.Lists.{Some, Each, any_means, any_fails, in_map}
 use Rattle.rules.proofs.HallLine.{Own, own_key_means, holds_whole_key_means}
-use Rattle.rules.proofs.OpenLine.{Open, Plugged, is_open_means, is_open_fails}
 use Rattle.rules.proofs.NodesLanesEdges.{Level, is_level_means, NodeAt, NoNodeAt, stands_at_means}
 use Rattle.rules.proofs.Profile.{has_number_means, is_live_means}
 use Rattle.rules.proofs.Marks.{numbers_of}
@@ -108,10 +107,6 @@ module _ (p : Profile) where
   pub no_lane_means : (k i : ℕ) → Means (not_there (ltb i (level_at k p.nodes))).applies (level_at k p.nodes ≤ i)
   no_lane_means k i = not_means (lt_fails i (level_at k p.nodes))
 
--- 18
-pub line_open_means : (k : ℕ) → Means (line_open k).applies (Open k)
-line_open_means k = is_open_means k
-
 module _ (room : Room) (after : Profile) where
   -- 11
   pub nodes_exceed_means : Means (nodes_exceed room after).applies (room.nodes < length after.nodes)
@@ -163,10 +158,6 @@ band_lines_zero b ls e =
 pub key_fault_zero : (k : ℕ) → (key_fault k ≡ 0) ↔ (k ≤ highest_key)
 unfolding key_fault
 key_fault_zero k = last_zero 4 (omega arith) (lt_fails highest_key k)
-
-pub stab_fault_zero : (k : ℕ) → (stab_fault k ≡ 0) ↔ ((k ≤ highest_key) × Plugged k)
-unfolding stab_fault
-stab_fault_zero k = line_zero 4 (omega arith) (lt_fails highest_key k) (last_zero 18 (omega arith) (is_open_fails k))
 
 pub band_fault_zero : (b : Band) → (band_fault b ≡ 0) ↔ BandRight b
 unfolding band_fault
@@ -284,13 +275,9 @@ module _ (sizes_right : Bool) where
   unfolding room_read_refusal
   room_accepted = last_zero 1 (omega arith) (not_fails (itself sizes_right))
 
-  pub stab_accepted : (k : ℕ) → (stab_refusal sizes_right k ≡ 0) ↔ ((sizes_right ≡ true) × ((k ≤ highest_key) × Plugged k))
-  unfolding stab_refusal stab_fault
-  stab_accepted k = line_zero 1 (omega arith) (not_fails (itself sizes_right)) (stab_fault_zero k)
-
-  pub key_accepted : (k : ℕ) → (key_refusal sizes_right k ≡ 0) ↔ ((sizes_right ≡ true) × (k ≤ highest_key))
-  unfolding key_refusal key_fault
-  key_accepted k = line_zero 1 (omega arith) (not_fails (itself sizes_right)) (key_fault_zero k)
+  pub stab_accepted : (k : ℕ) → (stab_refusal sizes_right k ≡ 0) ↔ ((sizes_right ≡ true) × (k ≤ highest_key))
+  unfolding stab_refusal
+  stab_accepted k = line_zero 1 (omega arith) (not_fails (itself sizes_right)) (last_zero 4 (omega arith) (lt_fails highest_key k))
 
   module _ (p : Profile) where
     pub band_accepted : (n : ℕ) → (band_read_refusal sizes_right p n ≡ 0) ↔ ((sizes_right ≡ true) × ((n ≤ highest_band_number) × Some (λ b. b.number ≡ n) p.bands))

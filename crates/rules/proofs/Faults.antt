@@ -1,5 +1,5 @@
--- Which of 2 to 7 is given of a band and the levels of its ends, which of 4 and 18 of a key to stab at, and which of 11 and 12 of the profile after a
--- change, from plain facts on numbers: a law for each answer that judging code comes to.
+-- Which of 2 to 7 is given of a band and the levels of its ends, and which of 11 and 12 of the profile after a change, from plain facts on numbers:
+-- a law for each answer that judging code comes to.
 -- Assumes nothing.
 use Prim.Native.Nat.{ℕ, ◌≤◌, ◌<◌}
 use mathlib.Core.Path.{◌≡◌}
@@ -13,9 +13,7 @@ use Rattle.rules.specs.NodesLanesEdges.{is_level}
 use Rattle.rules.specs.Profile.{Profile}
 use Rattle.rules.specs.Marks.{marks_in_use}
 use Rattle.rules.specs.Room.{Room}
-use Rattle.rules.specs.BoxSaysNo.{refusal_by, holds_none, end_elsewhere, stab_fault, band_fault, fault_of, fit_refusal}
-use Rattle.rules.proofs.Means.{denied}
-use Rattle.rules.proofs.OpenLine.{Open, is_open_means}
+use Rattle.rules.specs.BoxSaysNo.{refusal_by, holds_none, end_elsewhere, band_fault, fault_of, fit_refusal}
 use Rattle.rules.proofs.BoxSaysNo.{fault_of_levels}
 
 -- no number of the band is above its highest
@@ -56,20 +54,6 @@ module _ (b : Band) where
 
     pub by_none : holds_whole_key b ≡ true → within_scope b ≡ true → 0 ≡ band_fault b
     by_none some within = rw (left, some, within)
-
-module _ (k : ℕ) where
-  pub stab_by_4 : highest_key < k → 4 ≡ stab_fault k
-  unfolding stab_fault
-  stab_by_4 above = rw (lt-ltb _ _ above)
-
-  module _ (on_line : k ≤ highest_key) where
-    pub stab_by_18 : Open k → 18 ≡ stab_fault k
-    unfolding stab_fault
-    stab_by_18 is_open = rw (le-ltb _ _ on_line, (is_open_means k).test is_open)
-
-    pub stab_by_none : (Open k → ⊥) → 0 ≡ stab_fault k
-    unfolding stab_fault
-    stab_by_none other = rw (le-ltb _ _ on_line, (denied (is_open_means k)).test other)
 
 module _ (b : Band) (low high : ℕ) (none : band_fault b ≡ 0) where
   pub by_7 : (is_level low and is_level high) ≡ false → 7 ≡ fault_of b low high

@@ -9,11 +9,10 @@ use mathlib.Core.Logic.{◌↔◌, ◌⊎◌}
 use mathlib.Core.List.{List, [], ◌∷◌}
 use native.Mathlib.Omega.{arith}
 use Rattle.rules.specs.HallLine.{highest_key, highest_band_number}
-use Rattle.rules.specs.BoxSaysNo.{TableLine, refusal_by, sizes_wrong, number_above, key_above, line_open, not_live, not_there, empty_refusal, stab_refusal, band_read_lines, edge_read_lines, node_read_lines, room_read_refusal}
+use Rattle.rules.specs.BoxSaysNo.{TableLine, refusal_by, sizes_wrong, number_above, key_above, not_live, not_there, empty_refusal, stab_refusal, band_read_lines, edge_read_lines, node_read_lines, room_read_refusal}
 use Rattle.rules.proofs.Means.{Means, Fails, itself, not_means, not_fails, lt_fails}
-use Rattle.rules.proofs.OpenLine.{Open, Plugged, is_open_fails}
 use Rattle.rules.proofs.FirstLine.{Without, line_own, last_own, line_zero, last_zero, line_passed, line_gives}
-use Rattle.rules.proofs.BoxSaysNo.{sizes_wrong_means, number_above_means, key_above_means, line_open_means, empty_accepted, room_accepted}
+use Rattle.rules.proofs.BoxSaysNo.{sizes_wrong_means, number_above_means, key_above_means, empty_accepted, room_accepted, stab_accepted}
 
 -- ---- empty, room readout: only 1
 
@@ -67,15 +66,14 @@ band_gives {NotLive} {Live} {live} sizes_right number free lives =
         (line_passed (number_above number) (not_live live ∷ []) other.1 (lt_fails highest_band_number number) e))
         (λ f. (f.0, f.1.0, f.1.1), λ f. (f.0, (f.1, f.2)))
 
--- ---- where a key is given: 1 and 4, and on a stab 18
+-- ---- where a key is given: 1 and 4
 
 pub record StabGives (sizes_right : Bool) (k n : ℕ) : Type 0 where
   pub gives_1 : (n ≡ 1) ↔ (sizes_right ≡ false)
   pub gives_4 : (n ≡ 4) ↔ ((sizes_right ≡ true) × (highest_key < k))
-  pub gives_18 : (n ≡ 18) ↔ ((sizes_right ≡ true) × (k ≤ highest_key) × Open k)
-  pub gives_0 : (n ≡ 0) ↔ ((sizes_right ≡ true) × (k ≤ highest_key) × Plugged k)
+  pub gives_0 : (n ≡ 0) ↔ ((sizes_right ≡ true) × (k ≤ highest_key))
 
--- .. on a readout 13 where what is asked for is not there
+-- .. and 13 where what is asked for is not there
 pub record ThereGives (sizes_right : Bool) (NotThere There : Type 0) (k n : ℕ) : Type 0 where
   pub gives_1 : (n ≡ 1) ↔ (sizes_right ≡ false)
   pub gives_4 : (n ≡ 4) ↔ ((sizes_right ≡ true) × (highest_key < k))
@@ -106,14 +104,7 @@ module _ (sizes_right : Bool) (k : ℕ) where
 
   pub stab_gives : StabGives sizes_right k (stab_refusal sizes_right k)
   unfolding stab_refusal
-  stab_gives =
-      let last = line_open k ∷ [] in
-      record {
-        gives_1 = first_1 last (omega arith);
-        gives_4 = then_4 last (omega arith);
-        gives_18 = past_4 last (omega arith) 18 (omega arith) (last_own 18 (omega arith) (line_open_means k));
-        gives_0 = past_4 last (omega arith) 0 (omega arith) (last_zero 18 (omega arith) (is_open_fails k));
-      }
+  stab_gives = record { gives_1 = first_1 [] (tt, tt); gives_4 = then_4 [] (tt, tt); gives_0 = stab_accepted sizes_right k }
 
   pub node_gives : {NoNode Node : Type 0} {stands : Bool} → Fails stands NoNode → Means stands Node
       → ThereGives sizes_right NoNode Node k (refusal_by (node_read_lines sizes_right k stands))

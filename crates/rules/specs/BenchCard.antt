@@ -5,7 +5,7 @@ use Rattle.rules.specs.Lists.{member}
 use Rattle.rules.specs.HallLine.{Band, holds}
 use Rattle.rules.specs.Marks.{numbers_where}
 use Rattle.rules.specs.Flags.{flags_of, count_of}
-use Rattle.rules.specs.BoxSaysNo.{refusal_by, line, band_lines, stab_fault}
+use Rattle.rules.specs.BoxSaysNo.{refusal_by, line, band_lines, key_fault}
 
 -- what is wrong, and at which place, counted from 1; 0 for none
 pub record Bad : Type 0 where
@@ -25,9 +25,9 @@ first_bad seen place [] = bad 0 0
 first_bad seen place (b ∷ bs) =
     cond (eqb (record_fault seen b) 0) (first_bad (b.number ∷ seen) (suc place) bs) (bad (record_fault seen b) place)
 
--- the key is judged by 4, then 18, before the records, with place 0
+-- the key is judged by 4 before the records, with place 0
 unfoldable pub card_bad : List Band → ℕ → Bad
-card_bad records k = cond (eqb (stab_fault k) 0) (first_bad [] 1 records) (bad (stab_fault k) 0)
+card_bad records k = cond (eqb (key_fault k) 0) (first_bad [] 1 records) (bad (key_fault k) 0)
 
 -- what the card answers: the first thing wrong, the flags and the count
 pub record Scan : Type 0 where

@@ -4,7 +4,6 @@
 use Rattle.std.specs.Prelude.{true, false, List, [], ◌∷◌, ◌++◌}
 use Rattle.std.proofs.Math.Option.{none, some}
 use Rattle.rules.specs.HallLine.{Band, house, key_of, first_key, parts_in_range}
-use Rattle.rules.specs.OpenLine.{reading_in}
 use Rattle.rules.specs.NodesLanesEdges.{Node, node_of, edge_of}
 use Rattle.rules.specs.Profile.{profile_of, empty_profile, has_number, has_scope}
 use Rattle.rules.specs.Room.{room_of}
@@ -56,13 +55,13 @@ bench_rows =
     (node_of 10 2 ∷ node_of 20 1 ∷ node_of 30 1 ∷ node_of 50 1 ∷ [])
     9
     ∷ refused (room_of 5 8) (p9 (room_of 5 8)) (removing 4 0) 12
-    -- P10: 2,097,151 is taken as a band's end, and refused by 18 as a key to stab at; 2,097,152 is refused by 4 in both
+    -- P10: 2,097,151 is taken, as a band's end and by a stab; 2,097,152 is refused by 4 in both
     ∷ accepted wide empty_profile (inserting (closed 0 63 2097000 2097151) 1 1)
     (closed 0 63 2097000 2097151 ∷ [])
     (node_of 2097000 1 ∷ node_of 2097151 1 ∷ [])
     3
     ∷ refused wide empty_profile (inserting (closed 0 63 2097000 2097152) 1 1) 4
-    ∷ no_stab true bench 2097151 18
+    ∷ stab bench 2097151 [] 11
     ∷ no_stab true bench 2097152 4
     ∷ []
 
@@ -180,10 +179,10 @@ read_rows =
     ∷ no_in_use bench 1
     ∷ no_stab false bench 300 1
     ∷ no_stab false bench 2097152 1
-    ∷ gives (stab_refusal true 2097150) 0
-    ∷ stab mixed 32766 (1023 ∷ []) 9
+    ∷ gives (stab_refusal true 2097151) 0
+    ∷ stab mixed 32767 (1023 ∷ []) 9
     ∷ stab mixed 32768 (0 ∷ []) 9
-    ∷ stab mixed 65534 (0 ∷ 100 ∷ []) 10
+    ∷ stab mixed 65535 (0 ∷ 100 ∷ []) 10
     ∷ []
 
 -- Each refusal of each change, on arguments that mostly break a later rule too: the first line that applies is given, which has the lowest number.
@@ -336,8 +335,8 @@ abbrev pub card_rows : List Row
 card_rows =
     card bench.bands 250 0 0 (1 ∷ 3 ∷ 4 ∷ 5 ∷ [])
     ∷ card bench.bands 900 0 0 (2 ∷ [])
-    ∷ card mixed.bands 65534 0 0 (0 ∷ 100 ∷ [])
-    ∷ card [] 2097150 0 0 []
+    ∷ card mixed.bands 65535 0 0 (0 ∷ 100 ∷ [])
+    ∷ card [] 2097151 0 0 []
     ∷ card (open' 1 0 3 4 ∷ []) 2097152 4 0 []
     ∷ card (closed 1 house 0 2097152 ∷ []) 2097152 4 0 []
     ∷ card (closed 1 0 3 9 ∷ closed 2 0 3 9 ∷ closed 3 65 4 9 ∷ []) 5 2 3 []
@@ -347,33 +346,6 @@ card_rows =
     ∷ card (closed 1 1 3 9 ∷ []) 5 6 1 []
     ∷ card (closed 1 0 3 9 ∷ closed 2 0 3 9 ∷ closed 1 0 4 9 ∷ []) 5 8 3 []
     ∷ card (closed 0 house 3 9 ∷ closed 0 house 3 9 ∷ []) 5 8 2 []
-    ∷ []
-
--- An open line: a stab and the bench card refuse its key by 18, after 1 and 4 and before any record; bands end there and nodes are read there.
-abbrev pub open_rows : List Row
-open_rows =
-    gives (reading_in 68613) 5
-    ∷ gives (reading_in 2097151) 1023
-    ∷ stab mixed 1022 (1023 ∷ []) 9
-    ∷ no_stab true mixed 1023 18
-    ∷ stab mixed 1024 (1023 ∷ []) 9
-    ∷ no_stab true mixed 65535 18
-    ∷ no_stab true empty_profile 1023 18
-    ∷ no_stab false mixed 1023 1
-    -- above the line, where the reading would be 1,023
-    ∷ no_stab true mixed 2098175 4
-    -- an end stands there, and its node and edge are read; where none stands it is 13
-    ∷ node mixed 65535 1 (0 ∷ 100 ∷ [])
-    ∷ edge mixed 65535 0 (some 70000) (100 ∷ [])
-    ∷ no_node true mixed 1023 13
-    ∷ no_edge true mixed 1023 0 13
-    -- a band may hold no other key
-    ∷ accepted wide empty_profile (inserting (closed 3 0 1023 1023) 1 1) (closed 3 0 1023 1023 ∷ []) (node_of 1023 1 ∷ []) 1
-    ∷ card (closed 3 0 1023 1023 ∷ closed 4 0 1022 1023 ∷ []) 1022 0 0 (4 ∷ [])
-    ∷ card (closed 3 0 1023 1023 ∷ closed 4 0 1022 1023 ∷ []) 1023 18 0 []
-    ∷ card (closed 3 65 1023 1023 ∷ []) 1023 18 0 []
-    ∷ card [] 2097151 18 0 []
-    ∷ card [] 2098175 4 0 []
     ∷ []
 
 -- The wheel of levels: where its rule changes, at both its ends, and off them.
@@ -395,4 +367,4 @@ wheel_rows =
 -- the one table
 abbrev pub table : List Row
 table =
-    bench_rows ++ error_rows ++ key_rows ++ read_rows ++ refusal_rows ++ accepted_rows ++ sound_rows ++ reach_rows ++ card_rows ++ open_rows ++ wheel_rows
+    bench_rows ++ error_rows ++ key_rows ++ read_rows ++ refusal_rows ++ accepted_rows ++ sound_rows ++ reach_rows ++ card_rows ++ wheel_rows

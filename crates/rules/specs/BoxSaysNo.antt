@@ -1,5 +1,5 @@
--- "When the box says no": each line of the table as a condition, with the line that was requested after it (18), and for each call the lines that can be
--- given, in their order. In each list here the numbers ascend, so that the first line that applies is the lowest.
+-- "When the box says no": each line of the table as a condition, and for each call the lines that can be given, in their order. In each list here
+-- the numbers ascend, so that the first line that applies is the lowest.
 -- Whether sizes are right and memory is sound is given here as two Bools: these rules know no memory.
 -- Assumes nothing.
 use Rattle.std.specs.Prelude.{ℕ, Bool, not, cond, List, [], ◌∷◌, ◌++◌, ltb, eqb, length, replicate}
@@ -7,7 +7,6 @@ use Rattle.std.proofs.Math.Option.{none}
 use Rattle.rules.specs.Connectives.{◌and◌, ◌or◌}
 use Rattle.rules.specs.Lists.{any}
 use Rattle.rules.specs.HallLine.{Band, highest_key, highest_band_number, house, holds_whole_key, within_scope}
-use Rattle.rules.specs.OpenLine.{is_open}
 use Rattle.rules.specs.NodesLanesEdges.{is_level, stands_at, level_at}
 use Rattle.rules.specs.Profile.{Profile, has_number, is_live}
 use Rattle.rules.specs.Marks.{marks_in_use}
@@ -91,24 +90,13 @@ marks_exceed room after = line 12 (ltb room.marks (marks_in_use after))
 abbrev pub not_there : Bool → TableLine
 not_there there = line 13 (not there)
 
--- 18: stab or bench card: the key's reading is an open line's
-abbrev pub line_open : ℕ → TableLine
-line_open k = line 18 (is_open k)
-
 -- the faults of a band by itself: 2 to 6
 abbrev pub band_lines : Band → List TableLine
 band_lines b = scope_above b.scope ∷ number_above b.number ∷ end_above b ∷ holds_none b ∷ end_elsewhere b ∷ []
 
--- 4, for a key at which a node is looked for
+-- 4, for a key asked for
 unfoldable pub key_fault : ℕ → ℕ
 key_fault k = refusal_by (key_above k ∷ [])
-
--- 4, then 18, for a key that a stab or the bench card is asked about
-abbrev pub stab_fault_lines : ℕ → List TableLine
-stab_fault_lines k = key_above k ∷ line_open k ∷ []
-
-unfoldable pub stab_fault : ℕ → ℕ
-stab_fault k = refusal_by (stab_fault_lines k)
 
 -- the first of 2 to 6 that applies to a band
 unfoldable pub band_fault : Band → ℕ
@@ -180,9 +168,9 @@ leaving refusal a = record { refusal = refusal; after = a }
 abbrev pub changed : {A : Type 0} → ℕ → A → A → Change A
 changed refusal before after = leaving refusal (cond (eqb refusal 0) after before)
 
--- stab: 1 (sizes), 4, 18
+-- stab: 1 (sizes), 4
 abbrev pub stab_lines : Bool → ℕ → List TableLine
-stab_lines sizes_right k = sizes_wrong sizes_right ∷ stab_fault_lines k
+stab_lines sizes_right k = sizes_wrong sizes_right ∷ key_above k ∷ []
 
 unfoldable pub stab_refusal : Bool → ℕ → ℕ
 stab_refusal sizes_right k = refusal_by (stab_lines sizes_right k)
@@ -194,16 +182,9 @@ band_read_lines sizes_right number live = sizes_wrong sizes_right ∷ number_abo
 unfoldable pub band_read_refusal : Bool → Profile → ℕ → ℕ
 band_read_refusal sizes_right p number = refusal_by (band_read_lines sizes_right number (is_live number p.bands))
 
--- where a node is looked for: 1 (sizes), 4
-abbrev pub key_lines : Bool → ℕ → List TableLine
-key_lines sizes_right k = sizes_wrong sizes_right ∷ key_above k ∷ []
-
-unfoldable pub key_refusal : Bool → ℕ → ℕ
-key_refusal sizes_right k = refusal_by (key_lines sizes_right k)
-
 -- edge readout: 1 (sizes), 4, 13, where it is known whether a node stands at the key and has the lane
 abbrev pub edge_read_lines : Bool → ℕ → Bool → Bool → List TableLine
-edge_read_lines sizes_right k stands has_lane = key_lines sizes_right k ++ not_there stands ∷ not_there has_lane ∷ []
+edge_read_lines sizes_right k stands has_lane = sizes_wrong sizes_right ∷ key_above k ∷ not_there stands ∷ not_there has_lane ∷ []
 
 unfoldable pub edge_read_refusal : Bool → Profile → ℕ → ℕ → ℕ
 edge_read_refusal sizes_right p k i =
@@ -211,7 +192,7 @@ edge_read_refusal sizes_right p k i =
 
 -- node readout: 1 (sizes), 4, 13, where it is known whether a node stands at the key
 abbrev pub node_read_lines : Bool → ℕ → Bool → List TableLine
-node_read_lines sizes_right k stands = key_lines sizes_right k ++ not_there stands ∷ []
+node_read_lines sizes_right k stands = sizes_wrong sizes_right ∷ key_above k ∷ not_there stands ∷ []
 
 unfoldable pub node_read_refusal : Bool → Profile → ℕ → ℕ
 node_read_refusal sizes_right p k = refusal_by (node_read_lines sizes_right k (stands_at k p.nodes))

@@ -11,7 +11,7 @@
 --   "Errors that look right"               BenchTable
 -- and what was requested after it:
 --   "A wheel of levels"                    Wheel
---   "1,023 is an unplugged cable"          OpenLine, BoxSaysNo, BenchCard
+--   "1,023 is an unplugged cable"          OpenLine
 -- Connectives and Lists have the plain tests that they are worded with. Staircase is not the paper's: it has one band's marks slot by slot,
 -- and the walk by which code finds them. What the paper says of words in memory (places, which of them are
 -- free, the likeness of two memories) is not here: these rules know no memory.

@@ -14,7 +14,7 @@ use Rattle.search.specs.Descent.{Descent}
 use Rattle.search.specs.Found.{found_of}
 use Rattle.search.specs.declared.descent.Found.{Found}
 use Rattle.asking.specs.StabCall.{stab_found}
-use Rattle.asking.proofs.CallLines.{stab_refused, stab_marks_fit, stabbed}
+use Rattle.asking.proofs.CallLines.{stab_refused, marks_fit, stabbed}
 use Rattle.asking.proofs.stabbing.stab.Statement.{statement}
 use Rattle.asking.proofs.stabbing.stab.Tie as tie
 
@@ -25,8 +25,8 @@ found_counted found d count same sum =
     let counted = sum ∙ ap (λ f. sum_of ones f.taken.flags) same ∙ ones_of_flags d.taken in
     λ i. record { flags = (same i).taken.flags; count = counted i; met = (same i).taken.met; looks = (same i).looks }
 
-judge-stab-requires : tie.Need-judge-stab-requires
-judge-stab-requires c κs = search rules
+judge-key-requires : tie.Need-judge-key-requires
+judge-key-requires c κs = search rules
 
 enum-known-refusal : tie.Need-enum-known-refusal
 enum-known-refusal c = search rules
@@ -38,14 +38,14 @@ enum_told : tie.Need-enum-told
 enum_told c = search rules
 
 search-requires : tie.Need-search-requires
-search-requires c κs = stab_marks_fit _ _ _ _ (sym (ap answer_says c.enum_told.given.1) ∙ c.before.before.judge-stab.ensures)
+search-requires c κs = marks_fit _ _ _ _ (sym (ap answer_says c.enum_told.given.1) ∙ c.before.before.judge-key.ensures)
 
 count-requires : tie.Need-count-requires
 count-requires c κs = search rules
 
 returns : tie.Need-returns
 returns c =
-    let stays = sym (ap answer_says c.before.before.refusal.given.1) ∙ c.before.before.before.before.judge-stab.ensures in
+    let stays = sym (ap answer_says c.before.before.refusal.given.1) ∙ c.before.before.before.before.judge-key.ensures in
     left_as_it_was
     (c.refused.ensures ∙ stab_refused _ _ _ stays (no_refusal_says_0 c.before.before.refusal.given.0.0))
 
@@ -53,13 +53,13 @@ returns-2 : tie.Need-returns-2
 returns-2 c =
     left_as_it_was
     (ap (saying 0) (found_counted _ _ _ c.before.before.before.before.search.ensures c.count.ensures.sum)
-    ∙ stabbed _ _ (sym (ap answer_says c.before.before.before.before.before.enum_told.given.1) ∙ c.before.before.before.before.before.before.before.judge-stab.ensures))
+    ∙ stabbed _ _ (sym (ap answer_says c.before.before.before.before.before.enum_told.given.1) ∙ c.before.before.before.before.before.before.before.judge-key.ensures))
 
 pub stab_spec : {M : Type 1} → statement M
 stab_spec =
     tie.close
     (tie.spec
-    judge-stab-requires
+    judge-key-requires
     enum-known-refusal
     refused-requires
     enum_told

@@ -7,15 +7,15 @@ use Rattle.card.specs.Pass.{bare, begin_of}
 use Rattle.card.proofs.pass.Pass.begin.Statement.{statement}
 use Rattle.card.proofs.pass.Pass.begin.Tie as tie
 
-stab-fault-requires : tie.Need-stab-fault-requires
-stab-fault-requires c κs = search rules
+fault-requires : tie.Need-fault-requires
+fault-requires c κs = search rules
 
 bare-requires : tie.Need-bare-requires
 bare-requires c κs = search rules
 
 returns : tie.Need-returns
 unfolding begin_of
-returns c = c.bare.ensures ∙ ap (λ (r : ℕ). bare r 0) c.before.stab-fault.ensures
+returns c = c.bare.ensures ∙ ap (λ (r : ℕ). bare r 0) c.before.fault.ensures
 
 pub begin_spec : {M : Type 1} → statement M
-begin_spec = tie.close (tie.spec stab-fault-requires bare-requires returns)
+begin_spec = tie.close (tie.spec fault-requires bare-requires returns)
