@@ -1,4 +1,6 @@
 // The calls that only ask: the stab, and the readouts of a band, an edge, a node and the room used. They test sizes and write nothing.
+#![tactic(auto)]
+
 mod band_readout;
 mod edge_readout;
 mod judging;

@@ -1,4 +1,6 @@
 // The bench card: a plain scan over band records for one key.
+#![tactic(auto)]
+
 mod bands;
 mod pass;
 mod words;

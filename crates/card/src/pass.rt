@@ -9,7 +9,7 @@ ghost use Rattle.card.specs.Says.{pass_says, scan_says};
 use hall::{Answer, Band, Key, Refusal};
 
 // What the card answers: the first thing wrong and its place, counted from 1, or the flags and the count of the records that hold the key.
-#[derive(Drop)]
+#[derive(Clone, Copy)]
 pub struct Scan {
     pub answer: Answer,
     pub place: usize,
@@ -18,7 +18,7 @@ pub struct Scan {
 }
 
 // A pass so far. Once something is wrong it is told with its place, beside no flags.
-#[derive(Drop)]
+#[derive(Clone, Copy)]
 pub(crate) struct Pass {
     answer: Answer,
     place: usize,

@@ -1,4 +1,6 @@
 // The check of a whole profile in lent memory, made of tests of its parts.
+#![tactic(auto)]
+
 mod band_places;
 mod ends;
 mod links;

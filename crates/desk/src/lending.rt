@@ -4,7 +4,7 @@ ghost use Rattle.std.specs.Prelude.{◌≤◌, length};
 use crate::stores::{BAND_STORE, MARK_STORE, NODE_STORE};
 use desk_lines::Command;
 
-#[derive(Drop)]
+#[derive(Clone, Copy)]
 pub struct Lent {
     pub bands: usize,
     pub nodes: usize,

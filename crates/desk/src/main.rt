@@ -1,5 +1,7 @@
 // The desk: a console on the box. It lends one memory to the calls of the box and one bench card to the scan of `card`; what it does beside that
 // stands in docs/DESK.md.
+#![tactic(auto)]
+
 mod calling;
 mod carding;
 mod doing;

@@ -8,7 +8,7 @@ const TIMES: u64 = 31;
 const PRIME: u64 = 4294967291;
 
 // What came of it so far: whether the word that is meant was found (yes where none is meant), and the word or the sum.
-#[derive(Drop)]
+#[derive(Clone, Copy)]
 pub struct Poked {
     pub found: bool,
     pub number: u32,

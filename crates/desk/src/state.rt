@@ -4,7 +4,7 @@ use crate::lending::Lent;
 use crate::stores::{INPUT_START, OUTPUT_START};
 use desk_answers::Told;
 
-#[derive(Drop)]
+#[derive(Clone, Copy)]
 pub struct Desk {
     // How many words of each store are lent.
     pub lent: Lent,
@@ -22,7 +22,7 @@ pub struct Desk {
 }
 
 // A command done: the desk after it, and its answer.
-#[derive(Drop)]
+#[derive(Clone, Copy)]
 pub struct Done {
     pub desk: Desk,
     pub told: Told,

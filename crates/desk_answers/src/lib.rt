@@ -1,4 +1,6 @@
 // The desk's answers. Each is a form with values, and `tell` puts it as bytes into a buffer that is lent. Nothing is written out here.
+#![tactic(auto)]
+
 mod answers;
 mod forms;
 mod telling;

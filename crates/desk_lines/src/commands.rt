@@ -4,7 +4,7 @@ use crate::said;
 use crate::said::{SAID_COUNT, Said};
 use hall::{Band, Key};
 
-#[derive(Drop)]
+#[derive(Clone, Copy)]
 pub struct Command {
     // By the table's letters: its kind, and which of that kind.
     pub kind: u8,

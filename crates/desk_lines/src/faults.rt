@@ -1,7 +1,7 @@
 // What can be wrong with a line.
 
 // By the number of its words in `desk_answers`.
-#[derive(Drop)]
+#[derive(Clone, Copy)]
 pub struct Fault(pub u32);
 
 impl Fault {

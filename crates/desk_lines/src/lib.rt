@@ -1,4 +1,6 @@
 // The desk's lines: from bytes to the command that they say, or to what is wrong with them. A line is all that is seen here.
+#![tactic(auto)]
+
 mod commands;
 mod faults;
 mod keys;

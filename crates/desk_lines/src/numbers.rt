@@ -8,7 +8,7 @@ const HIGHEST: u64 = 4294967295;
 const NO_DIGIT: u8 = 10;
 
 // The number that a word says, or what is wrong with it; beside that stands 0, or the highest where the number is above it.
-#[derive(Drop)]
+#[derive(Clone, Copy)]
 pub struct Read {
     pub fault: Fault,
     pub number: u32,

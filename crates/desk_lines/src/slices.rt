@@ -4,7 +4,7 @@ use crate::numbers::Read;
 use crate::{numbers, words};
 
 // One of the three slices of the memory, by its name's first letter.
-#[derive(Drop)]
+#[derive(Clone, Copy)]
 pub struct Slice(pub u32);
 
 impl Slice {

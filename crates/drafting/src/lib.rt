@@ -1,4 +1,6 @@
 // A change as it is drafted, beside the lent memory: what stays of the memory's profile, then entries put to it.
+#![tactic(auto)]
+
 mod entry_drafting;
 mod keeping;
 mod node_drafting;

@@ -1,4 +1,6 @@
 // A call that changes: making an empty profile in lent memory.
+#![tactic(auto)]
+
 ghost use Rattle.std.specs.Prelude.{◌≡◌};
 ghost use Rattle.store.specs.Memory.{lent};
 ghost use Rattle.emptying.specs.EmptyCall.{empty_in};

@@ -1,4 +1,6 @@
 // The 1,024 flags of an answer, one for each band number, in sixteen 64-bit words.
+#![tactic(auto)]
+
 ghost use Rattle.std.specs.Prelude.{◌≡◌};
 ghost use Rattle.flags.specs.FlagWords.{with_flag, flag_is_set, Counted};
 

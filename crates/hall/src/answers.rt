@@ -5,7 +5,7 @@ ghost use Rattle.hall.specs.Says.{refusal_says, answer_says};
 use crate::keys::Key;
 
 // Why the box says no: a case for each line of the paper's table, in its order.
-#[derive(Drop)]
+#[derive(Clone, Copy)]
 pub enum Refusal {
     MemoryUnfit,
     ScopeAbove,
@@ -23,14 +23,14 @@ pub enum Refusal {
 }
 
 // What a call comes to.
-#[derive(Drop)]
+#[derive(Clone, Copy)]
 pub enum Answer {
     Done,
     Refused(Refusal),
 }
 
 // The key of the node that comes next in a lane, where one does.
-#[derive(Drop)]
+#[derive(Clone, Copy)]
 pub enum Next {
     Key(Key),
     None,

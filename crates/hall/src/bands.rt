@@ -11,7 +11,7 @@ use crate::answers::{Answer, Refusal};
 use crate::keys::Key;
 
 // A band, as given: any numbers can stand here, and `fault` judges them.
-#[derive(Drop)]
+#[derive(Clone, Copy)]
 pub struct Band {
     pub number: u32,
     pub scope: u32,

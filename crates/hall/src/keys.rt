@@ -8,15 +8,15 @@ ghost use Rattle.hall.specs.MadeKeys.{first_made, key_made};
 use crate::answers::{Answer, Refusal};
 
 // A key, as given: any number can stand here, and `fault` judges it.
-#[derive(Drop)]
+#[derive(Clone, Copy)]
 pub struct Key(pub u32);
 
 // A reading in counts, as given.
-#[derive(Drop)]
+#[derive(Clone, Copy)]
 pub struct Reading(pub u16);
 
 // The key made, or that there is none, where a part is out of its range.
-#[derive(Drop)]
+#[derive(Clone, Copy)]
 pub enum Made {
     At(Key),
     NoSuchKey,

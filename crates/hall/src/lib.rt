@@ -1,4 +1,6 @@
 // The kinds of the hall: keys and readings, bands, and what the box answers.
+#![tactic(auto)]
+
 mod answers;
 mod bands;
 mod keys;

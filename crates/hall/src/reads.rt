@@ -3,7 +3,7 @@ use crate::answers::{Answer, Next};
 use crate::keys::Key;
 
 // Flags and count of the marks met, how many those were, and the looks. On sound memory the flags are those of the bands that hold the key.
-#[derive(Drop)]
+#[derive(Clone, Copy)]
 pub struct StabRead {
     pub answer: Answer,
     pub flags: [u64; 16],
@@ -13,7 +13,7 @@ pub struct StabRead {
 }
 
 // A live band's scope, ends and closed ends.
-#[derive(Drop)]
+#[derive(Clone, Copy)]
 pub struct BandRead {
     pub answer: Answer,
     pub scope: u32,
@@ -24,7 +24,7 @@ pub struct BandRead {
 }
 
 // The key of the node that comes next in the lane, or none, and the flags marked on the way there.
-#[derive(Drop)]
+#[derive(Clone, Copy)]
 pub struct EdgeRead {
     pub answer: Answer,
     pub next: Next,
@@ -32,7 +32,7 @@ pub struct EdgeRead {
 }
 
 // A node's level, and the flags marked there.
-#[derive(Drop)]
+#[derive(Clone, Copy)]
 pub struct NodeRead {
     pub answer: Answer,
     pub level: u32,
@@ -40,7 +40,7 @@ pub struct NodeRead {
 }
 
 // Nodes and marks in use.
-#[derive(Drop)]
+#[derive(Clone, Copy)]
 pub struct RoomRead {
     pub answer: Answer,
     pub nodes: u32,

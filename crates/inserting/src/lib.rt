@@ -1,4 +1,6 @@
 // A call that changes: inserting a band.
+#![tactic(auto)]
+
 ghost use Rattle.std.specs.Prelude.{◌≡◌, replicate, ◌*◌};
 ghost use Rattle.hall.specs.Says.{answer_says};
 ghost use Rattle.hall.specs.SaidBand.{said};

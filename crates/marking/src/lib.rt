@@ -1,4 +1,6 @@
 // The marks of a memory's bands: walking one band's staircase, counting marks by slot, from counts to starts, and laying each mark in its slot.
+#![tactic(auto)]
+
 mod counting;
 mod putting;
 mod starting;

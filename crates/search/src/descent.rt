@@ -9,7 +9,7 @@ use crate::taking::Taken;
 use hall::Key;
 
 // What a search finds: what it took, how often it looked at a next node, and the place it ended at.
-#[derive(Drop)]
+#[derive(Clone, Copy)]
 pub struct Found {
     pub taken: Taken,
     pub looks: u32,

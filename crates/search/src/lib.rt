@@ -1,4 +1,6 @@
 // The stab's search, and finding a node's place, over node and mark words of any memory.
+#![tactic(auto)]
+
 mod descent;
 mod finding;
 mod taking;

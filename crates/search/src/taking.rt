@@ -5,7 +5,7 @@ ghost use Rattle.rules.specs.Room.{most_marks};
 ghost use Rattle.store.specs.SaidMarks.{between, said_marks};
 ghost use Rattle.search.specs.Found.{with_taken, taken_of};
 
-#[derive(Drop)]
+#[derive(Clone, Copy)]
 pub struct Taken {
     pub flags: [u64; 16],
     pub met: u32,

@@ -1,4 +1,6 @@
 // The lent memory as words.
+#![tactic(auto)]
+
 mod places;
 mod records;
 mod sizes;

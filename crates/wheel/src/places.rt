@@ -5,7 +5,7 @@ ghost use Rattle.rules.specs.Wheel.{wheel_places, next_place, off_wheel};
 pub(crate) const PLACES: u32 = 1024;
 
 // A place on the wheel, as given, counted from 1: any number can stand here, and `turn` judges it. It is a kind of its own, so that none is typed for a level.
-#[derive(Drop)]
+#[derive(Clone, Copy)]
 pub struct Place(pub u32);
 
 impl Place {

@@ -9,7 +9,7 @@ use crate::places::Place;
 use hall::{Answer, Refusal};
 
 // What comes back for a place: the level there and the next place, or why there is none, beside zeros.
-#[derive(Drop)]
+#[derive(Clone, Copy)]
 pub struct Turned {
     pub answer: Answer,
     pub level: u32,

@@ -1,0 +1,63 @@
+-- `checking::whole_profile::check` meets its contract: each test takes one part of all that is tested, and all together are `sound`.
+-- Assumes nothing.
+use Prim.Native.Nat.{◌≤◌}
+use mathlib.Core.Path.{◌∙◌}
+use borrow.Author.Rules.{rules}
+use lib.ListN.{length}
+use Rattle.rules.specs.Room.{most_nodes, most_marks}
+use Rattle.rules.proofs.Connectives.{both}
+use Rattle.rules.proofs.Means.{and_both}
+use Rattle.checking.specs.Tested.{tested}
+use Rattle.checking.proofs.TestsInOrder.{passed, decided, left_to_next, within_most}
+use Rattle.checking.proofs.TestedIsSound.{tested_is_sound}
+use Rattle.store.specs.Places.{in_use}
+use Rattle.store.proofs.OnlyAsked.{left_as_it_was}
+use Rattle.checking.proofs.whole_profile.check.Goals as goal
+
+-- once sizes and places have passed, nodes and marks are within the most that there are words for
+within : (c : tie.Else2)
+    → (in_use c.before.before.before.before.before.before.before.before.args.nodes.now ≤ most_nodes)
+    × (length c.before.before.before.before.before.before.before.before.args.marks.now ≤ most_marks)
+within c =
+    let sizes = c.before.before.before in
+    let args = sizes.before.before.before.before.before.args in
+    let places = passed (both c.before.before.band-places-right.ensures c.before.node-places-right.ensures) c.if2.false in
+    within_most args.bands.now args.nodes.now args.marks.now
+    (passed sizes.before.sizes-right.ensures sizes.if1.false) (and_both _ _ places).1
+
+pub returns-then-not-sizes_right : goal.returns-then-not-sizes_right
+unfolding tested
+returns-then-not-sizes_right c = left_as_it_was (decided c.sizes_right.ensures _ c.if-not-sizes_right.true ∙ tested_is_sound _)
+
+pub returns-then-not-places : goal.returns-then-not-places
+unfolding tested
+returns-then-not-places c =
+    left_as_it_was
+    (left_to_next c.sizes_right.ensures _ c.if-not-sizes_right.false
+    (decided (both c.band_places_right.ensures c.node_places_right.ensures) _ c.if-not-places.true)
+    ∙ tested_is_sound _)
+
+pub ends_match-requires : goal.ends_match-requires
+ends_match-requires c = (within c).0
+
+pub returns-then-not-ends_and_links : goal.returns-then-not-ends_and_links
+unfolding tested
+returns-then-not-ends_and_links c =
+    left_as_it_was
+    (left_to_next c.sizes_right.ensures _ c.if-not-sizes_right.false
+    (left_to_next (both c.band_places_right.ensures c.node_places_right.ensures) _ c.if-not-places.false
+    (decided (both c.ends_match.ensures c.links_right.ensures) _ c.if-not-ends_and_links.true))
+    ∙ tested_is_sound _)
+
+pub marks_right-requires : goal.marks_right-requires
+marks_right-requires c = within c.before.before.before
+
+pub returns : goal.returns
+unfolding tested
+returns c =
+    left_as_it_was
+    (left_to_next c.sizes_right.ensures _ c.if-not-sizes_right.false
+    (left_to_next (both c.band_places_right.ensures c.node_places_right.ensures) _ c.if-not-places.false
+    (left_to_next (both c.ends_match.ensures c.links_right.ensures) _ c.if-not-ends_and_links.false
+    c.marks_right.ensures))
+    ∙ tested_is_sound _)

@@ -1,0 +1,18 @@
+-- `committing::laying::lay_draft` meets its contract: what is copied and laid is the one memory of the profile that the draft says.
+-- Assumes nothing.
+use borrow.Author.Rules.{rules}
+use Rattle.store.proofs.RightSizes.{sizes_in_numbers}
+use Rattle.committing.proofs.DraftCommitted.{drafted_within, draft_laid_lem}
+use Rattle.committing.proofs.laying.lay_draft.Goals as goal
+
+pub lay-requires : goal.lay-requires
+lay-requires c =
+    let pre = c.requires in
+    let size = (sizes_in_numbers _ _ _).fact pre.0 in
+    (drafted_within _ _ _ _ _ pre.0 pre.1 pre.2 pre.3, search rules)
+
+pub returns : goal.returns
+returns c =
+    let pre = c.requires in
+    draft_laid_lem _ _ _ _ _ pre.0 pre.1 pre.2 pre.3 _ _ _ _ _ _ pre.4 pre.5
+    c.copy.ensures c.copy-2.ensures c.clear.ensures c.lay.ensures

@@ -1,0 +1,30 @@
+-- `committing::link_laying::put_links` meets its contract. The loop's invariant: the links of the place are laid in the lanes below this one.
+-- Assumes nothing.
+use Prim.Native.Nat.{◌-◌, ◌≤◌}
+use native.Mathlib.Omega.{arith}
+use borrow.Author.Rules.{rules}
+use lib.ListN.{length}
+use Rattle.rules.specs.NodesLanesEdges.{lanes}
+use Rattle.store.specs.HasFields.{HasFields}
+use Rattle.committing.proofs.LinkLaying.{linked_below_field, no_lane_laid, one_more_lane_laid, all_lanes_laid}
+use Rattle.committing.proofs.link_laying.put_links.Goals as goal
+
+pub loop-lane-init : goal.loop-lane-init
+loop-lane-init c = (omega arith, no_lane_laid _ _ _ _)
+
+pub loop-lane-preserved : goal.loop-lane-preserved
+loop-lane-preserved c =
+    (
+      omega arith,
+      one_more_lane_laid _ _ _ _ _ _ _ _ _
+          (omega arith)
+          c.link_due.ensures.0
+          c.put_node_word.ensures
+          c.loop-lane.invariant.1,
+    )
+
+pub shape_of-draft : goal.shape_of-draft
+shape_of-draft c = c.loop-lane.invariant.1.size
+
+pub returns : goal.returns
+returns c = all_lanes_laid _ _ _ _ _ _ _ (omega arith) c.loop-lane.invariant.1

@@ -1,0 +1,35 @@
+-- `drafting::keeping::keep_noted` meets its contract. The loop's invariant: the nodes drafted so far and those noted from here on are all that are
+-- noted.
+-- Assumes nothing.
+use Prim.Native.Nat.{◌+◌, ◌-◌}
+use mathlib.Core.Path.{◌∙◌, ap}
+use mathlib.Core.Bool.{not}
+use mathlib.Core.Logic.{⊎_elim}
+use native.Mathlib.Omega.{arith}
+use borrow.Author.Rules.{rules}
+use borrow.Author.Tests.{ne_eqb}
+use Rattle.rules.specs.Connectives.{says_yes}
+use Rattle.drafting.proofs.KeepSteps.{KeptSoFar, keeping_begins, fewer_drafted, same_size, place_passed, place_kept, keeping_ends}
+use Rattle.drafting.proofs.keeping.keep_noted.Goals as goal
+
+pub loop-place-init : goal.loop-place-init
+loop-place-init c = keeping_begins _ _ c.requires.2
+
+pub add_node-requires : goal.add_node-requires
+add_node-requires c =
+    omega (arith, fewer_drafted _ _ c.loop-place.invariant)
+
+pub loop-place-preserved : goal.loop-place-preserved
+loop-place-preserved c =
+    let so_far = c.loop-place.invariant in
+    ⊎_elim
+    (λ w. let noted = ap not (ne_eqb _ 0 w.0.taken) in
+    place_kept _ _ so_far (omega arith) (omega arith) noted w.1.ensures.0 w.2.ensures.0 (w.7 ∙ w.4.ensures))
+    (λ w. place_passed _ _ so_far (omega arith) (ap says_yes w.0.left) w.1)
+    c.if-found-place-ne0.branch
+
+pub shape_of-draft : goal.shape_of-draft
+shape_of-draft c = same_size _ _ c.loop-place.invariant c.requires.2
+
+pub returns : goal.returns
+returns c = keeping_ends _ _ c.loop-place.invariant (omega arith)

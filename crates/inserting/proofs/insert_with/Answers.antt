@@ -1,0 +1,33 @@
+-- `inserting::insert_with` meets its contract: what stands in sound memory is drafted, the entry is put to it, and what comes of the draft is the
+-- insert.
+-- Assumes nothing.
+use mathlib.Core.Path.{◌∙◌}
+use borrow.Author.Rules.{rules}
+use Rattle.store.proofs.Sound.{sound_means}
+use Rattle.drafting.proofs.WhatStays.{all_stay}
+use Rattle.inserting.proofs.InsertSteps.{insert_on_sound, entry_right, number_free, insert_committed}
+use Rattle.inserting.proofs.insert_with.Goals as goal
+
+pub keep_ends-requires : goal.keep_ends-requires
+keep_ends-requires c =
+    let pre = c.requires in
+    ((_, all_stay _ (insert_on_sound _ _ _ _ pre.0) pre.1 c.copy.ensures), pre.2)
+
+pub put_entry-requires : goal.put_entry-requires
+put_entry-requires c =
+    let pre = c.requires in
+    let left = all_stay _ (insert_on_sound _ _ _ _ pre.0) pre.1 c.copy.ensures in
+    (_, c.keep_ends.ensures _ left, entry_right _ _ _ _ pre.0, number_free _ _ _ _ pre.0)
+
+pub commit-requires : goal.commit-requires
+commit-requires c =
+    let pre = c.requires in
+    let sound = insert_on_sound _ _ _ _ pre.0 in
+    let left = all_stay _ sound pre.1 c.copy.ensures in
+    (((sound_means _).fact sound).sizes, (_, c.put_entry.ensures _ (c.keep_ends.ensures _ left)))
+
+pub returns : goal.returns
+returns c =
+    let pre = c.requires in
+    let left = all_stay _ (insert_on_sound _ _ _ _ pre.0) pre.1 c.copy.ensures in
+    c.commit.ensures _ (c.put_entry.ensures _ (c.keep_ends.ensures _ left)) ∙ insert_committed _ _ _ _ pre.0

@@ -1,0 +1,9 @@
+-- `store::places::band_word` meets its contract.
+-- Assumes nothing.
+use borrow.Author.Rules.{rules}
+use Rattle.store.specs.Places.{band_field}
+use Rattle.store.proofs.places.band_word.Goals as goal
+
+pub returns : goal.returns
+unfolding band_field
+returns c = c.word.ensures

@@ -1,0 +1,9 @@
+-- `store::places::node_word` meets its contract.
+-- Assumes nothing.
+use borrow.Author.Rules.{rules}
+use Rattle.store.specs.Places.{node_field}
+use Rattle.store.proofs.places.node_word.Goals as goal
+
+pub returns : goal.returns
+unfolding node_field
+returns c = c.word.ensures

@@ -1,0 +1,10 @@
+-- `store::records::put_band` meets its contract.
+-- Assumes nothing.
+use borrow.Author.Rules.{rules}
+use Rattle.store.specs.WithBand.{with_place_of}
+use Rattle.store.proofs.records.put_band.Goals as goal
+
+pub returns : goal.returns
+unfolding with_place_of
+returns c =
+    rw (c.word_of.ensures, c.word_of-2.ensures) at c.put_fields.ensures
