@@ -32,7 +32,7 @@ module _ {p : Profile} {k i : ℕ} (at : Spot) {d : Descent} where
   comes_by_step : {to : Spot} → drop_in i k at ≡ drop_in i k to → to.steps ≡ at.steps + 1 → ComesTo p k (suc i) to d
       → ComesTo p k (suc i) at (looked [] d)
   comes_by_step e t c =
-      record { same_taken = rw e c.same_taken; same_looks = rw e (omega (arith, c.same-looks)); same_place = c.same_place }
+      record { same_taken = rw e c.same_taken; same_looks = rw e (omega (arith, c.same_looks)); same_place = c.same_place }
 
   -- .. and one before a lane is dropped
   comes_by_drop : {xs : List ℕ} → drop_in i k at ≡ at → xs ≡ drop_takes p i k at.here (lane_of i at.ahead) → ComesTo p k i at d
@@ -40,7 +40,7 @@ module _ {p : Profile} {k i : ℕ} (at : Spot) {d : Descent} where
   comes_by_drop e t c =
       record {
         same_taken = rw e (ap₂ (λ (xs ys : List ℕ). xs ++ ys) t c.same_taken);
-        same_looks = rw e (omega (arith, c.same-looks));
+        same_looks = rw e (omega (arith, c.same_looks));
         same_place = c.same_place;
       }
 
@@ -48,7 +48,7 @@ module _ {p : Profile} {k i : ℕ} (at : Spot) {d : Descent} where
 from_start : {p : Profile} {k m : ℕ} {d : Descent} → ComesTo p k m (start p) d
     → d ≡ descent_of (takes_from p k m (start p)) (m + steps_from k m (start p)) (below k p.nodes)
 from_start {p} {k} {m} {d} c =
-    let looks : d.looks ≡ m + steps_from k m (start p) = omega (arith, c.same-looks) in
+    let looks : d.looks ≡ m + steps_from k m (start p) = omega (arith, c.same_looks) in
     λ t. descent_of (c.same_taken t) (looks t) (c.same_place t)
 
 module _ {p : Profile} {nodes marks : List ℕ} (laid : Lays p nodes marks) (s : Standing p) (k : ℕ) where

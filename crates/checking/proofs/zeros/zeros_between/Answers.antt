@@ -9,9 +9,10 @@ use lib.ListN.{length}
 use Rattle.checking.specs.Zeros.{zeros_between}
 use Rattle.checking.proofs.FreeWords.{zeros_stopped, zeros_onward, zeros_done}
 use Rattle.checking.proofs.zeros.zeros_between.Goals as goal
+use Rattle.checking.proofs.zeros.zeros_between.Goals.{then-to-words, else-to-words}
 
 pub loop-at-init : goal.loop-at-init
-loop-at-init c = (⊎_elim (λ w. omega arith) (λ w. omega arith) c.if-to-words.branch, refl)
+loop-at-init c = (elim c.if-to-words.branch [ then-to-words w ↦ omega arith | else-to-words w ↦ omega arith ], refl)
 
 pub returns-then-words-at-ne0 : goal.returns-then-words-at-ne0
 returns-then-words-at-ne0 c =

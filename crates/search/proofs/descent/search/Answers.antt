@@ -9,45 +9,7 @@ use Rattle.search.specs.Descent.{most_looks}
 use Rattle.search.proofs.NextNode.{NextRead}
 use Rattle.search.proofs.Searching.{Searching, begins, alike, steps_on, drops_taking, drops, ends, ends_short}
 use Rattle.search.proofs.descent.search.Goals as goal
-
--- what was read of the next node
-next : (c : tie.After-node-word2 invariant-loop decreases-loop invariant-lanes decreases-lanes)
-    → NextRead
-    c.before.before.before.before.before.before.before.before.before.before.args.nodes.now
-    c.before.before.before.loop.here
-    (c.before.before.before.before.before.lanes.lanes - 1)
-    c.before.node-word.result
-    c.node-word2.result
-next c = record { link = c.before.node-word.ensures.0; key = c.node-word2.ensures.0 }
-
--- where the loop over lanes is left the search still goes, with no lane to go or no look left
-left : (c : tie.Left-lanes invariant-loop decreases-loop invariant-lanes decreases-lanes)
-    → Searching
-    c.before.before.before.before.before.before.args.nodes.now
-    c.before.before.before.before.before.before.args.marks.now
-    c.before.before.before.before.before.before.args.key.0
-    c.lanes-test.taken
-    c.lanes-test.looks
-    c.lanes-test.place
-    c.before.lanes.lanes
-    × ((c.before.lanes.lanes ≡ 0) ⊎ (most_looks ≤ c.lanes-test.looks))
-left c =
-    ⊎_elim
-    (λ w. (alike _ _ _ c.before.lanes.invariant w.1 w.2 w.3 refl, inl (omega arith)))
-    (λ w. (alike _ _ _ w.1.inv w.3 w.4 w.5 (omega arith), inr (omega arith)))
-    c.lanes-test.branch
-
--- where the lanes are done
-done : (c : tie.Then4 invariant-loop decreases-loop invariant-lanes decreases-lanes)
-    → Searching
-    c.before.before.before.before.before.before.before.args.nodes.now
-    c.before.before.before.before.before.before.before.args.marks.now
-    c.before.before.before.before.before.before.before.args.key.0
-    c.before.lanes-test.true
-    c.before.lanes-test.looks
-    c.before.lanes-test.place
-    0
-done c = alike _ _ _ (left c.before).0 refl refl refl (sym c.if4.true)
+use Rattle.search.proofs.descent.search.Goals.{else-lanes-test, then-lanes-test+then-looks-ge-MOST_LOOKS}
 
 pub lanes-init : goal.lanes-init
 lanes-init c = begins _ _ _ c.nothing-taken.ensures
@@ -60,7 +22,7 @@ loop-looks-preserved c =
     steps_on _ _ _
     c.loop-looks.invariant
     (omega arith)
-    (next c.before)
+    (record { link = c.node_word-next.ensures.0; key = c.node_word-next_key.ensures.0 })
     c.node_word-next.ensures.1
     c.if-next-next_key.true
 
@@ -69,7 +31,7 @@ lanes-preserved-then-next-k c =
     drops_taking _ _ _
     c.loop-looks.invariant
     (omega arith)
-    (next c.before.before.before)
+    (record { link = c.node_word-next.ensures.0; key = c.node_word-next_key.ensures.0 })
     (omega arith)
     c.if-next-next_key.false
     c.if-next-k.true
@@ -80,18 +42,38 @@ lanes-preserved c =
     drops _ _ _
     c.loop-looks.invariant
     (omega arith)
-    (next c.before.before)
+    (record { link = c.node_word-next.ensures.0; key = c.node_word-next_key.ensures.0 })
     (omega arith)
     c.if-next-next_key.false
     c.if-next-k.false
 
 pub take_at_end-more-requires : goal.take_at_end-more-requires
-take_at_end-more-requires c = let s = done c in search rules
+take_at_end-more-requires c =
+    -- where the lanes are done, finishing from here with no lane to go comes to the whole
+    let done : Searching c.args.nodes.now c.args.marks.now c.args.key.0 c.lanes-test.taken c.lanes-test.looks c.lanes-test.place 0 =
+    elim c.lanes-test.branch [
+      | else-lanes-test w ↦ alike _ _ _ c.lanes.invariant w.taken-is w.looks-is w.place-is (sym c.if-lanes-eq0.true)
+      | then-lanes-test+then-looks-ge-MOST_LOOKS w ↦ absurd (omega arith)
+    ] in
+    (omega arith, omega arith)
 
 pub returns-then-lanes-eq0 : goal.returns-then-lanes-eq0
-returns-then-lanes-eq0 c = ends _ _ _ (done c.before) c.take_at_end-more.ensures
+returns-then-lanes-eq0 c =
+    let done : Searching c.args.nodes.now c.args.marks.now c.args.key.0 c.lanes-test.taken c.lanes-test.looks c.lanes-test.place 0 =
+    elim c.lanes-test.branch [
+      | else-lanes-test w ↦ alike _ _ _ c.lanes.invariant w.taken-is w.looks-is w.place-is (sym c.if-lanes-eq0.true)
+      | then-lanes-test+then-looks-ge-MOST_LOOKS w ↦ absurd (omega arith)
+    ] in
+    ends _ _ _ done c.take_at_end-more.ensures
 
+-- left with lanes to go: no look is left
 pub returns-else-lanes-eq0 : goal.returns-else-lanes-eq0
 returns-else-lanes-eq0 c =
-    let s = left c.before in
-    ends_short _ _ _ s.0 (omega arith) (⊎_elim (λ none. absurd (c.if-lanes-eq0.false none)) (λ up. up) s.1)
+    elim c.lanes-test.branch [
+      | else-lanes-test w ↦ absurd (c.if-lanes-eq0.false (omega arith))
+      | then-lanes-test+then-looks-ge-MOST_LOOKS w ↦
+          ends_short _ _ _
+          (alike _ _ _ w.loop-looks.invariant w.taken-is w.looks-is w.place-is refl)
+          (omega arith)
+          (omega arith)
+    ]

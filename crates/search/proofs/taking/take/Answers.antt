@@ -12,9 +12,10 @@ use Rattle.store.specs.SaidMarks.{between}
 use Rattle.search.specs.Found.{with_taken}
 use Rattle.search.proofs.TakenMarks.{next_taken, all_taken}
 use Rattle.search.proofs.taking.take.Goals as goal
+use Rattle.search.proofs.taking.take.Goals.{then-to-marks, else-to-marks}
 
 pub loop-at-init : goal.loop-at-init
-loop-at-init c = (⊎_elim (λ w. omega arith) (λ w. omega arith) c.if-to-marks.branch, search rules, omega arith, refl)
+loop-at-init c = (elim c.if-to-marks.branch [ then-to-marks w ↦ omega arith | else-to-marks w ↦ omega arith ], search rules, omega arith, refl)
 
 pub loop-at-preserved : goal.loop-at-preserved
 loop-at-preserved c =
