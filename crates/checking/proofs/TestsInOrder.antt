@@ -4,10 +4,9 @@
 use Prim.Native.Nat.{ℕ, ◌≤◌}
 use native.Mathlib.Omega.{arith}
 use mathlib.Core.Path.{◌≡◌, sym, ◌∙◌}
-use mathlib.Core.Bool.{Bool, true, false, not}
+use mathlib.Core.Bool.{Bool, true, false}
 use mathlib.Core.Logic.{inl}
 use mathlib.Core.List.{List}
-use borrow.Author.Tests.{not-true, not-false}
 use lib.ListN.{length}
 use Rattle.rules.specs.Connectives.{◌and◌}
 use Rattle.rules.specs.Room.{most_nodes, most_marks}
@@ -21,15 +20,15 @@ use Rattle.store.specs.Places.{in_use}
 
 -- the code asks of each answer whether it is no
 module _ {answer a : Bool} (same : answer ≡ a) where
-  pub passed : not answer ≡ false → a ≡ true
-  passed e = sym same ∙ not-false answer e
+  pub passed : answer ≡ true → a ≡ true
+  passed e = sym same ∙ e
 
   -- a test that fails decides ..
-  pub decided : (b : Bool) → not answer ≡ true → false ≡ a and b
-  decided b e = sym (false_and a b (inl (sym same ∙ not-true answer e)))
+  pub decided : (b : Bool) → answer ≡ false → false ≡ a and b
+  decided b e = sym (false_and a b (inl (sym same ∙ e)))
 
   -- .. and one that passes leaves it to the next
-  pub left_to_next : (b : Bool) → not answer ≡ false → {r : Bool} → r ≡ b → r ≡ a and b
+  pub left_to_next : (b : Bool) → answer ≡ true → {r : Bool} → r ≡ b → r ≡ a and b
   unfolding ◌and◌
   left_to_next b e next = rw (passed e) next
 

@@ -9,8 +9,8 @@ use crate::{band_places, ends, links, mark_places, node_places};
 
 // Yes exactly when the memory is sound. Memory of wrong sizes is not.
 pub fn check(bands: &[u32], nodes: &[u32], marks: &[u32]) -> bool
-    ensures { asked result bands.now nodes.now marks.now
-        ≡ telling sound (lent bands.now nodes.now marks.now) }
+    ensures { asked result bands.exit.now nodes.exit.now marks.exit.now
+        ≡ telling sound (lent bands.entry.now nodes.entry.now marks.entry.now) }
 {
     if !store::sizes_right(bands, nodes, marks) {
         return false;

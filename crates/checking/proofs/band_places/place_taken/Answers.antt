@@ -16,6 +16,7 @@ use Rattle.hall.specs.declared.answers.Refusal.{Refusal}
 use Rattle.hall.proofs.OneToOne.{no_refusal_says_0}
 use Rattle.checking.specs.BandPlaces.{band_place_taken}
 use Rattle.checking.proofs.band_places.place_taken.Goals as goal
+use Rattle.checking.proofs.band_places.place_taken.Goals.{in-Done, in-Refused}
 
 -- code joins from the left, the test from the right
 joined : (a b c d e : Bool) → (((a and b) and c) and d) and e ≡ a and b and c and d and e
@@ -45,5 +46,8 @@ returns c =
     (ap (λ w. leb w 1) c.band_word-low_closed.ensures.0))
     (ap (λ w. leb w 1) c.band_word-high_closed.ensures.0))
     c.zeros_between-reserve.ensures)
-    (⊎_elim (λ w. accepted _ says w.1.given.1 w.2) (λ w. refused _ says w.1.given.0.0 w.1.given.1 w.2) c.match-fault.branch)
+    (elim c.match-fault.branch [
+      | in-Done w ↦ accepted _ says w.in-Done.is w.right-is
+      | in-Refused w ↦ refused _ says w.in-Refused.field-0 w.in-Refused.is w.right-is
+    ])
     ∙ joined _ _ _ _ _

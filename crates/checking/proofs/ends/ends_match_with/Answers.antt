@@ -11,4 +11,4 @@ returns c =
     c.requires.0
     c.node_word-in_use.ensures.0
     c.note_ends-placed.ensures
-    c.all_Noted.ensures{-?-}
+    c.all_noted.ensures

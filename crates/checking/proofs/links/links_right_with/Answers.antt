@@ -14,18 +14,6 @@ use Rattle.checking.proofs.LinkSteps.{links_by_ahead, links_up_to, all_links, li
 use Rattle.store.specs.Places.{in_use}
 use Rattle.checking.proofs.links.links_right_with.Goals as goal
 
--- the answer about a place's links, known by the first places ahead, is that of the test
-answer : (c : tie.After-links-due invariant-loop decreases-loop)
-    → c.links-due.result
-    ≡ place_links_right
-    c.before.before.before.before.before.before.before.before.args.nodes.now
-    c.before.before.before.before.loop.place
-answer c =
-    c.links-due.ensures
-    ∙ links_by_ahead _ _ _ _
-    (c.before.before.node-word2.ensures.0 ∙ sym (node_lanes _ _ c.before.before.before.loop-test.true))
-    c.before.before.before.before.loop.invariant.0
-
 pub loop-place-init : goal.loop-place-init
 loop-place-init c = (
   none_ahead _ _ _ c.node_word-place.ensures.0 c.requires,
@@ -36,33 +24,44 @@ loop-place-init c = (
 
 pub shape_of-ahead-then-not-links_due : goal.shape_of-ahead-then-not-links_due
 shape_of-ahead-then-not-links_due c =
-    c.loop-place.invariant.0.in-all-lanes
+    c.loop-place.invariant.0.in_all_lanes
     ∙ sym (ap length c.requires)
 
 pub returns-then-not-links_due : goal.returns-then-not-links_due
 returns-then-not-links_due c =
-    sym (links_stopped _ _ (sym (answer c.before) ∙ c.if-not-links_due.true))
+    -- the answer about a place's links, known by the first places ahead, is that of the test
+    let answer =
+    c.links_due.ensures
+    ∙ links_by_ahead _ _ _ _
+    (c.node_word-level.ensures.0 ∙ sym (node_lanes _ _ c.loop-place-test.true))
+    c.loop-place.invariant.0 in
+    sym (links_stopped _ _ (sym answer ∙ c.if-not-links_due.true))
     ∙ c.loop-place.invariant.3
 
 pub loop-place-preserved : goal.loop-place-preserved
-loop-place-preserved c = (
-  ahead_before _ _ _ _ _
-      c.loop-place-test.true
-      c.loop-place.invariant.1
-      c.node_word-level.ensures.0
-      c.raise.ensures
-      c.loop-place.invariant.0,
-  omega arith,
-  omega arith,
-  sym (links_onward _ _
-      c.loop-place-test.true
-      (sym (answer c.before.before.before.before.before) ∙ c.if-not-links_due.false))
-      ∙ c.loop-place.invariant.3,
-)
+loop-place-preserved c =
+    let answer =
+    c.links_due.ensures
+    ∙ links_by_ahead _ _ _ _
+    (c.node_word-level.ensures.0 ∙ sym (node_lanes _ _ c.loop-place-test.true))
+    c.loop-place.invariant.0 in (
+      ahead_before _ _ _ _ _
+          c.loop-place-test.true
+          c.loop-place.invariant.1
+          c.node_word-level.ensures.0
+          c.raise.ensures
+          c.loop-place.invariant.0,
+      omega arith,
+      omega arith,
+      sym (links_onward _ _
+          c.loop-place-test.true
+          (sym answer ∙ c.if-not-links_due.false))
+          ∙ c.loop-place.invariant.3,
+    )
 
 pub shape_of-ahead : goal.shape_of-ahead
 shape_of-ahead c =
-    c.loop-place.invariant.0.in-all-lanes ∙ sym (ap length c.requires)
+    c.loop-place.invariant.0.in_all_lanes ∙ sym (ap length c.requires)
 
 pub returns : goal.returns
 returns c =

@@ -13,15 +13,6 @@ use Rattle.checking.specs.MarkPlaces.{marks_in_use_right}
 use Rattle.checking.proofs.MarkSteps.{in_use_wrong, counts_fit, fences_wrong, marks_left}
 use Rattle.checking.proofs.mark_places.marks_right_with.Goals as goal
 
--- past the first test there is room for the marks, and the header counts them
-in_use_passed : (c : tie.Else1)
-    → marks_in_use_right
-    c.before.before.before.before.before.before.before.before.before.before.before.args.nodes.now
-    (length c.before.before.before.before.before.before.before.before.before.before.before.args.marks.now)
-    c.before.before.before.before.count.result
-    ≡ true
-in_use_passed c = sym c.before.marks-in-use-right.ensures ∙ not-false _ c.if1.false
-
 pub count-sum-requires : goal.count-sum-requires
 count-sum-requires c = (search rules, zeros_have_room _ c.requires.2)
 
@@ -36,13 +27,13 @@ to_starts-requires c =
     let args = c.args in
     let sum =
     counts_fit args.bands.now args.nodes.now args.marks.now (counted_up_to _ _ _ c.requires.2 c.count-sum.ensures)
-    (in_use_passed c.before) in
+    (sym c.marks_in_use_right.ensures ∙ c.if-not-marks_in_use_right.false) in
     omega arith
 
 pub returns-then-not-fences_at : goal.returns-then-not-fences_at
 returns-then-not-fences_at c =
     let pre = c.requires in
-    sym (fences_wrong _ _ _ (counted_up_to _ _ _ pre.2 c.count-sum.ensures) (in_use_passed c.before.before.before.before.before.before.before) (omega arith) c.to_starts.ensures
+    sym (fences_wrong _ _ _ (counted_up_to _ _ _ pre.2 c.count-sum.ensures) (sym c.marks_in_use_right.ensures ∙ c.if-not-marks_in_use_right.false) (omega arith) c.to_starts.ensures
     (sym c.fences_at.ensures ∙ c.if-not-fences_at.true))
 
 pub marks_as_laid-requires : goal.marks_as_laid-requires
@@ -54,6 +45,6 @@ marks_as_laid-requires c =
 pub returns : goal.returns
 returns c =
     let pre = c.requires in
-    marks_left _ _ _ (counted_up_to _ _ _ pre.2 c.count-sum.ensures) (in_use_passed c.before.before.before.before.before.before.before.before.before.before.before.before.before.before) (omega arith) c.to_starts.ensures pre.1 pre.4
+    marks_left _ _ _ (counted_up_to _ _ _ pre.2 c.count-sum.ensures) (sym c.marks_in_use_right.ensures ∙ c.if-not-marks_in_use_right.false) (omega arith) c.to_starts.ensures pre.1 pre.4
     (sym c.fences_at.ensures ∙ c.if-not-fences_at.false)
     c.marks_as_laid.ensures

@@ -13,5 +13,5 @@ returns-then-not-nodes_fit c = decided c.nodes_fit.ensures _ c.if-not-nodes_fit.
 pub returns : goal.returns
 unfolding node_places_right
 returns c =
-    left_to_next c.before.before.before.before.nodes_fit_lem.ensures{-?-} _ c.if-not-nodes_fit.false
+    left_to_next c.nodes_fit.ensures _ c.if-not-nodes_fit.false
     (both c.header_right.ensures (both c.nodes_right.ensures c.rest_free.ensures))

@@ -14,17 +14,6 @@ use Rattle.store.specs.Places.{in_use}
 use Rattle.store.proofs.OnlyAsked.{left_as_it_was}
 use Rattle.checking.proofs.whole_profile.check.Goals as goal
 
--- once sizes and places have passed, nodes and marks are within the most that there are words for
-within : (c : tie.Else2)
-    → (in_use c.before.before.before.before.before.before.before.before.args.nodes.now ≤ most_nodes)
-    × (length c.before.before.before.before.before.before.before.before.args.marks.now ≤ most_marks)
-within c =
-    let sizes = c.before.before.before in
-    let args = sizes.before.before.before.before.before.args in
-    let places = passed (both c.before.before.band-places-right.ensures c.before.node-places-right.ensures) c.if2.false in
-    within_most args.bands.now args.nodes.now args.marks.now
-    (passed sizes.before.sizes-right.ensures sizes.if1.false) (and_both _ _ places).1
-
 pub returns-then-not-sizes_right : goal.returns-then-not-sizes_right
 unfolding tested
 returns-then-not-sizes_right c = left_as_it_was (decided c.sizes_right.ensures _ c.if-not-sizes_right.true ∙ tested_is_sound _)
@@ -38,7 +27,13 @@ returns-then-not-places c =
     ∙ tested_is_sound _)
 
 pub ends_match-requires : goal.ends_match-requires
-ends_match-requires c = (within c).0
+ends_match-requires c =
+    -- once sizes and places have passed, nodes and marks are within the most that there are words for
+    let places = passed (both c.band_places_right.ensures c.node_places_right.ensures) c.if-not-places.false in
+    let within =
+    within_most c.args.bands.now c.args.nodes.now c.args.marks.now
+    (passed c.sizes_right.ensures c.if-not-sizes_right.false) (and_both _ _ places).1 in
+    within.0
 
 pub returns-then-not-ends_and_links : goal.returns-then-not-ends_and_links
 unfolding tested
@@ -50,7 +45,13 @@ returns-then-not-ends_and_links c =
     ∙ tested_is_sound _)
 
 pub marks_right-requires : goal.marks_right-requires
-marks_right-requires c = within c.before.before.before
+marks_right-requires c =
+    -- once sizes and places have passed, nodes and marks are within the most that there are words for
+    let places = passed (both c.band_places_right.ensures c.node_places_right.ensures) c.if-not-places.false in
+    let within =
+    within_most c.args.bands.now c.args.nodes.now c.args.marks.now
+    (passed c.sizes_right.ensures c.if-not-sizes_right.false) (and_both _ _ places).1 in
+    within
 
 pub returns : goal.returns
 unfolding tested

@@ -54,7 +54,7 @@ shape_of-draft c = c.put_links-2.ensures.size ∙ c.loop-place.invariant.3.size
 
 pub shape_of-ahead : goal.shape_of-ahead
 shape_of-ahead c =
-    c.loop-place.invariant.0.in-all-lanes
+    c.loop-place.invariant.0.in_all_lanes
     ∙ sym (ap length c.requires)
 
 pub returns : goal.returns
