@@ -13,8 +13,8 @@ use hall::{Answer, Band, BandRead, Key, Refusal};
 
 // The band of a number.
 pub fn band(bands: &[u32], nodes: &[u32], marks: &[u32], number: u32) -> BandRead
-    ensures { asked (band_read_says result) bands.now nodes.now marks.now
-        ≡ telling (λ m. band_in m number) (lent bands.now nodes.now marks.now) }
+    ensures { asked (band_read_says result) bands.exit.now nodes.exit.now marks.exit.now
+        ≡ telling (λ m. band_in m number) (lent bands.entry.now nodes.entry.now marks.entry.now) }
 {
     if !store::sizes_right(bands, nodes, marks) {
         return refused(Refusal::MemoryUnfit);

@@ -12,8 +12,8 @@ use hall::{Answer, EdgeRead, Key, Next, Refusal};
 
 // The edge out of the node at a key in a lane.
 pub fn edge(bands: &[u32], nodes: &[u32], marks: &[u32], key: Key, lane: u32) -> EdgeRead
-    ensures { asked (edge_read_says result) bands.now nodes.now marks.now
-        ≡ telling (λ m. edge_in m key.0 lane) (lent bands.now nodes.now marks.now) }
+    ensures { asked (edge_read_says result) bands.exit.now nodes.exit.now marks.exit.now
+        ≡ telling (λ m. edge_in m key.0 lane) (lent bands.entry.now nodes.entry.now marks.entry.now) }
 {
     match judge_key(bands, nodes, marks, key) {
         Answer::Refused(refusal) => refused(refusal),

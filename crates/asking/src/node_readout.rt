@@ -12,8 +12,8 @@ use hall::{Answer, Key, NodeRead, Refusal};
 
 // The node at a key.
 pub fn node(bands: &[u32], nodes: &[u32], marks: &[u32], key: Key) -> NodeRead
-    ensures { asked (node_read_says result) bands.now nodes.now marks.now
-        ≡ telling (λ m. node_in m key.0) (lent bands.now nodes.now marks.now) }
+    ensures { asked (node_read_says result) bands.exit.now nodes.exit.now marks.exit.now
+        ≡ telling (λ m. node_in m key.0) (lent bands.entry.now nodes.entry.now marks.entry.now) }
 {
     match judge_key(bands, nodes, marks, key) {
         Answer::Refused(refusal) => refused(refusal),

@@ -9,8 +9,8 @@ use hall::{Answer, Refusal, RoomRead};
 
 // The room used.
 pub fn room(bands: &[u32], nodes: &[u32], marks: &[u32]) -> RoomRead
-    ensures { asked (room_read_says result) bands.now nodes.now marks.now
-        ≡ telling room_read_in (lent bands.now nodes.now marks.now) }
+    ensures { asked (room_read_says result) bands.exit.now nodes.exit.now marks.exit.now
+        ≡ telling room_read_in (lent bands.entry.now nodes.entry.now marks.entry.now) }
 {
     if !store::sizes_right(bands, nodes, marks) {
         return RoomRead {

@@ -12,8 +12,8 @@ use hall::{Answer, Key, Refusal, StabRead};
 
 // Of the bands only the length is looked at: what is marked is what stands among nodes and marks.
 pub fn stab(bands: &[u32], nodes: &[u32], marks: &[u32], key: Key) -> StabRead
-    ensures { asked (stab_says result) bands.now nodes.now marks.now
-        ≡ telling (λ m. stab_in m key.0) (lent bands.now nodes.now marks.now) }
+    ensures { asked (stab_says result) bands.exit.now nodes.exit.now marks.exit.now
+        ≡ telling (λ m. stab_in m key.0) (lent bands.entry.now nodes.entry.now marks.entry.now) }
 {
     match judge_key(bands, nodes, marks, key) {
         Answer::Refused(refusal) => refused(refusal),

@@ -25,7 +25,7 @@ use Rattle.store.specs.Memory.{Memory, lengths_in, room_in}
 use Rattle.store.specs.SaidProfile.{said_profile}
 use Rattle.store.specs.Sound.{sound}
 use Rattle.store.specs.ChangeIn.{change_in}
-use Rattle.store.proofs.LentWords.{Lent, also_given, lent_memory, came_with}
+use Rattle.store.proofs.LentWords.{LentToChange, also_given, memory_to_change, came_of_change}
 use Rattle.store.proofs.ChangeIn.{LeavesSound, change_leaves}
 use Rattle.asking.specs.BandCall.{band_in}
 use Rattle.asking.specs.NodeCall.{node_in}
@@ -73,9 +73,9 @@ empty_outcome m =
           change_ends m (empty_refusal (sizes_right (lengths_in m))) empty_profile (empty_fitting m) (empty_makes m right).accepted number h (λ b i. absurd i);
     }
 
-pub any_empty_outcome : (κs : Lfts 3) (given left : Lent (Unit {0})) (a : Answer) → empty_promise κs given a left
-    → EmptyOutcome (lent_memory given) (came_with a left)
-any_empty_outcome κs given left a meets = subst (EmptyOutcome (lent_memory given)) (sym meets) (empty_outcome (lent_memory given))
+pub any_empty_outcome : (κs : Lfts 3) (given left : LentToChange (Unit {0})) (a : Answer) → empty_promise κs given a left
+    → EmptyOutcome (memory_to_change given) (came_of_change a left)
+any_empty_outcome κs given left a meets = subst (EmptyOutcome (memory_to_change given)) (sym meets) (empty_outcome (memory_to_change given))
 
 -- ---- inserting a band
 
@@ -119,10 +119,10 @@ insert_outcome m b lo hi =
       alone = insert_alone m b lo hi;
     }
 
-pub any_insert_outcome : (κs : Lfts 3) (given left : Lent (GivenBand × (ℕ × (ℕ × Unit {0})))) (a : Answer) → insert_promise κs given a left
-    → InsertOutcome (lent_memory given) (said (also_given given).0) (also_given given).1.0 (also_given given).1.1.0 (came_with a left)
+pub any_insert_outcome : (κs : Lfts 3) (given left : LentToChange (GivenBand × (ℕ × (ℕ × Unit {0})))) (a : Answer) → insert_promise κs given a left
+    → InsertOutcome (memory_to_change given) (said (also_given given).0) (also_given given).1.0 (also_given given).1.1.0 (came_of_change a left)
 any_insert_outcome κs given left a meets =
-    subst (InsertOutcome (lent_memory given) (said (also_given given).0) (also_given given).1.0 (also_given given).1.1.0) (sym meets) (insert_outcome _ _ _ _)
+    subst (InsertOutcome (memory_to_change given) (said (also_given given).0) (also_given given).1.0 (also_given given).1.1.0) (sym meets) (insert_outcome _ _ _ _)
 
 -- ---- removing a band
 
@@ -162,7 +162,7 @@ remove_outcome m number scope =
       alone = remove_alone m number scope;
     }
 
-pub any_remove_outcome : (κs : Lfts 3) (given left : Lent (ℕ × (ℕ × Unit {0}))) (a : Answer) → remove_promise κs given a left
-    → RemoveOutcome (lent_memory given) (also_given given).0 (also_given given).1.0 (came_with a left)
+pub any_remove_outcome : (κs : Lfts 3) (given left : LentToChange (ℕ × (ℕ × Unit {0}))) (a : Answer) → remove_promise κs given a left
+    → RemoveOutcome (memory_to_change given) (also_given given).0 (also_given given).1.0 (came_of_change a left)
 any_remove_outcome κs given left a meets =
-    subst (RemoveOutcome (lent_memory given) (also_given given).0 (also_given given).1.0) (sym meets) (remove_outcome _ _ _)
+    subst (RemoveOutcome (memory_to_change given) (also_given given).0 (also_given given).1.0) (sym meets) (remove_outcome _ _ _)

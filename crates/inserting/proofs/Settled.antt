@@ -7,9 +7,9 @@ use Rattle.hall.specs.declared.bands.Band.{Band}
 use contract.Lifetimes.{Lfts}
 use mathlib.Core.Path.{◌≡◌}
 use Rattle.hall.specs.declared.answers.Answer.{Answer}
-use Rattle.store.proofs.LentWords.{Lent, SameWords}
+use Rattle.store.proofs.LentWords.{LentToChange, SameWordsLeft}
 use Rattle.store.proofs.ToldBack.{change_told_back}
 use Rattle.inserting.proofs.insert.Reads.{Post as promise}
 
-pub insert_settled : (κs : Lfts 3) (given x y : Lent (Band × (ℕ × (ℕ × Unit {0})))) (a b : Answer) → promise κs given a x → promise κs given b y → (a ≡ b) × SameWords x y
+pub insert_settled : (κs : Lfts 3) (given x y : LentToChange (Band × (ℕ × (ℕ × Unit {0})))) (a b : Answer) → promise κs given a x → promise κs given b y → (a ≡ b) × SameWordsLeft x y
 insert_settled κs given x y a b p q = change_told_back a b _ _ _ _ _ _ p q

@@ -8,28 +8,43 @@ use mir.Syntax.{Lifetime}
 use base.Fml.{Lft}
 use denote.Exit.{Kept, Last, see}
 use denote.RattleType.{RattleType}
-use denote.Ref.{Bor}
+use denote.Bor.{Bor}
+use denote.MutBor.{MutBor}
 use denote.Slice.{ShrSlice}
 use Rattle.rules.specs.BoxSaysNo.{Change}
 use Rattle.hall.specs.declared.answers.Answer.{Answer}
 use Rattle.store.specs.Memory.{Memory, lent}
 use Rattle.store.specs.Came.{came, Asked, asked}
 
--- the three slices, and what else a call is given
+-- the three slices, lent by references of one kind, and what else a call is given
+abbrev pub LentBy : Type 0 → Type 0 → Type 0
+LentBy R A = R × (R × (R × A))
+
+-- what a call that asks is given: its slices are lent by `&` ..
 abbrev pub Lent : Type 0 → Type 0
-Lent A = Bor (List ℕ) × (Bor (List ℕ) × (Bor (List ℕ) × A))
+Lent A = LentBy (Bor (List ℕ)) A
+
+-- .. and what a call that changes is: by `&mut`
+abbrev pub LentToChange : Type 0 → Type 0
+LentToChange A = LentBy (MutBor (List ℕ)) A
 
 -- what else
-abbrev pub also_given : {A : Type 0} → Lent A → A
+abbrev pub also_given : {R A : Type 0} → LentBy R A → A
 also_given x = x.1.1.1
 
 -- the memory that the slices are
 abbrev pub lent_memory : {A : Type 0} → Lent A → Memory
 lent_memory x = lent x.0.now x.1.0.now x.1.1.0.now
 
+abbrev pub memory_to_change : {A : Type 0} → LentToChange A → Memory
+memory_to_change x = lent x.0.now x.1.0.now x.1.1.0.now
+
 -- what comes of a call that changes, and of one that asks: a is answered, or told, and the words of x stand after it
 abbrev pub came_with : {A : Type 0} → Answer → Lent A → Change Memory
 came_with a x = came a x.0.now x.1.0.now x.1.1.0.now
+
+abbrev pub came_of_change : {A : Type 0} → Answer → LentToChange A → Change Memory
+came_of_change a x = came a x.0.now x.1.0.now x.1.1.0.now
 
 abbrev pub asked_with : {A B : Type 0} → A → Lent B → Asked A
 asked_with a x = asked a x.0.now x.1.0.now x.1.1.0.now
@@ -37,6 +52,9 @@ asked_with a x = asked a x.0.now x.1.0.now x.1.1.0.now
 -- the words in all three are the same
 abbrev pub SameWords : {A : Type 0} → Lent A → Lent A → Type 0
 SameWords x y = (x.0.now ≡ y.0.now) × (x.1.0.now ≡ y.1.0.now) × (x.1.1.0.now ≡ y.1.1.0.now)
+
+abbrev pub SameWordsLeft : {A : Type 0} → LentToChange A → LentToChange A → Type 0
+SameWordsLeft x y = (x.0.now ≡ y.0.now) × (x.1.0.now ≡ y.1.0.now) × (x.1.1.0.now ≡ y.1.1.0.now)
 
 -- how the kit reads a slice that is lent by `&`: when the call ends it is seen as it was passed, as one value. So that it then stands as it was holds of
 -- every function that is lent it so, and that none writes it is the kit's own law of what such a slice owns

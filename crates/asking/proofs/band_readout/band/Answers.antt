@@ -14,17 +14,6 @@ use Rattle.store.proofs.OnlyAsked.{left_as_it_was}
 use Rattle.asking.proofs.CallLines.{band_by_1, band_by_3, band_by_9, band_read_lem}
 use Rattle.asking.proofs.band_readout.band.Goals as goal
 
--- past the first test the sizes are right
-right : (c : tie.Else1)
-    → sizes_right
-    (lengths_in
-    (lent
-    c.before.before.before.before.before.args.bands.now
-    c.before.before.before.before.before.args.nodes.now
-    c.before.before.before.before.before.args.marks.now))
-    ≡ true
-right c = sym c.before.sizes-right.ensures ∙ not-false _ c.if1.false
-
 pub returns-then-not-sizes_right : goal.returns-then-not-sizes_right
 returns-then-not-sizes_right c =
     left_as_it_was
@@ -33,17 +22,17 @@ returns-then-not-sizes_right c =
 pub returns-then-number-gt-HIGHEST_NUMBER : goal.returns-then-number-gt-HIGHEST_NUMBER
 returns-then-number-gt-HIGHEST_NUMBER c =
     left_as_it_was
-    (c.refused-then-number-gt-HIGHEST_NUMBER.ensures ∙ band_by_3 _ (right c.before.before) _ (omega arith))
+    (c.refused-then-number-gt-HIGHEST_NUMBER.ensures ∙ band_by_3 _ (sym c.sizes_right.ensures ∙ c.if-not-sizes_right.false) _ (omega arith))
 
 pub returns-then-not-is_live : goal.returns-then-not-is_live
 returns-then-not-is_live c =
     left_as_it_was
     (c.refused-then-not-is_live.ensures
-    ∙ band_by_9 _ (right c.before.before.before.before) _ (omega arith) (sym c.is_live.ensures ∙ c.if-not-is_live.true))
+    ∙ band_by_9 _ (sym c.sizes_right.ensures ∙ c.if-not-sizes_right.false) _ (omega arith) (sym c.is_live.ensures ∙ c.if-not-is_live.true))
 
 pub returns : goal.returns
 returns c =
     left_as_it_was
     (ap (λ b. saying 0 (band_read_of (some b))) c.band_at-band.ensures
-    ∙ band_read_lem _ (right c.before.before.before.before.before.before) _ (omega arith)
+    ∙ band_read_lem _ (sym c.sizes_right.ensures ∙ c.if-not-sizes_right.false) _ (omega arith)
     (sym c.is_live.ensures ∙ c.if-not-is_live.false))

@@ -2,13 +2,13 @@
 -- Assumes nothing.
 use Prim.Native.Nat.{ℕ, suc, ◌+◌, ◌<◌}
 use mathlib.Core.Path.{◌≡◌, refl, sym, ap, ◌∙◌}
-use mathlib.Core.Bool.{false, not, ◌&&◌}
+use mathlib.Core.Bool.{true, false, ◌&&◌}
 use mathlib.Core.List.{List}
 use mathlib.Core.Option.{Option}
 use native.Mathlib.Omega.{arith}
 use lib.Dec.{ltb}
 use borrow.Author.Rules.{rules}
-use borrow.Author.Tests.{not-true, not-false, ltb-true}
+use borrow.Author.Tests.{ltb-true}
 use Rattle.rules.specs.Connectives.{◌and◌}
 use Rattle.rules.specs.NodesLanesEdges.{lanes}
 use Rattle.rules.specs.Flags.{flags_of}
@@ -30,8 +30,8 @@ lane_test : (lane level said : ℕ) → level ≡ said → ltb lane lanes && ltb
 lane_test lane level said e = both refl (ap (ltb lane) e)
 
 -- a lane that passes the test is one of the eight
-lane_below : (lane level : ℕ) → not (ltb lane lanes && ltb lane level) ≡ false → lane < lanes
-lane_below lane level passed = ltb-true lane lanes (and_both _ _ (sym (lane_test lane level level refl) ∙ not-false _ passed)).0
+lane_below : (lane level : ℕ) → ltb lane lanes && ltb lane level ≡ true → lane < lanes
+lane_below lane level passed = ltb-true lane lanes (and_both _ _ (sym (lane_test lane level level refl) ∙ passed)).0
 
 -- what is read of the link, word by word
 words_read : (nodes marks : List ℕ) (place lane link : ℕ) (next : Option ℕ) (flags : List ℕ)
