@@ -15,30 +15,20 @@ use Rattle.committing.proofs.LinkedDraft.{in_use_kept}
 use Rattle.committing.proofs.DraftLaid.{same_in_use, sum_above, sum_within, counts_within, draft_done}
 use Rattle.committing.proofs.completing.complete.Goals as goal
 
--- past the first test there is room for the nodes
-nodes_fit_lem : (c : tie.Else1)
-    → length (said_nodes c.before.before.before.before.before.before.args.draft-nodes.now)
-    ≤ c.before.before.before.before.before.before.args.node-room
-nodes_fit_lem c =
-    let draft = c.before.before.before.before.before.before.args.draft-nodes.now in
-    let read = c.before.node-word.ensures in
-    let within = c.if1.false in
-    omega (arith, said_nodes_length draft)
-
 pub returns-then-node_room-node_word : goal.returns-then-node_room-node_word
 returns-then-node_room-node_word c =
     let args = c.args in
-    let draft = args.draft-nodes.now in
+    let draft = args.draft_nodes.now in
     let read = c.node_word.ensures in
     let over = c.if-node_room-node_word.true in (
-      by_11 (room_of args.node_room args.mark_room) (said_by args.draft-bands.now draft) (omega (arith, said_nodes_length draft)),
+      by_11 (room_of args.node_room args.mark_room) (said_by args.draft_bands.now draft) (omega (arith, said_nodes_length draft)),
       λ e. absurd (omega arith),
     )
 
 pub count-sum-requires : goal.count-sum-requires
 count-sum-requires c =
-    let draft = c.args.draft-nodes.now in
-    let few = nodes_fit_lem c.before.before.before.before.before.before in
+    let draft = c.args.draft_nodes.now in
+    let few : length (said_nodes draft) ≤ c.args.node_room = omega (arith, said_nodes_length draft) in
     let room = c.requires.2 in
     let kept = in_use_kept draft c.lay_links.ensures in
     (omega (arith, said_nodes_length draft), zeros_have_room _ c.requires.4)
@@ -46,8 +36,11 @@ count-sum-requires c =
 pub returns-then-mark_room-sum : goal.returns-then-mark_room-sum
 returns-then-mark_room-sum c =
     let args = c.args in
-    let bands = args.draft-bands.now in (
-      by_12 (room_of args.node_room args.mark_room) (said_by bands args.draft-nodes.now) (nodes_fit_lem c.before.before.before.before.before.before.before.before.before.before)
+    let bands = args.draft_bands.now in
+    let draft = args.draft_nodes.now in
+    -- past the first test there is room for the nodes
+    let few : length (said_nodes draft) ≤ c.args.node_room = omega (arith, said_nodes_length draft) in (
+      by_12 (room_of args.node_room args.mark_room) (said_by bands args.draft_nodes.now) few
           (sum_above bands c.requires.0 c.requires.1 c.lay_links.ensures c.requires.4 c.count-sum.ensures
           c.if-mark_room-sum.true),
       λ e. absurd (omega arith),
@@ -56,16 +49,16 @@ returns-then-mark_room-sum c =
 pub to_starts-requires : goal.to_starts-requires
 to_starts-requires c =
     let few =
-    counts_within c.args.draft-bands.now c.requires.0 c.requires.1 c.lay_links.ensures c.requires.4
+    counts_within c.args.draft_bands.now c.requires.0 c.requires.1 c.lay_links.ensures c.requires.4
     c.count-sum.ensures c.if-mark_room-sum.false in
     let room = c.requires.3 in
     omega arith
 
 pub lay_fences-requires : goal.lay_fences-requires
 lay_fences-requires c =
-    let draft = c.args.draft-nodes.now in
+    let draft = c.args.draft_nodes.now in
     let same = same_in_use draft _ c.lay_links.ensures c.put_node_word.ensures c.put_node_word-2.ensures in
-    let few = nodes_fit_lem c.before.before.before.before.before.before.before.before.before.before.before.before.before.before.before.before.before.before.before.before.before.before.before.before in
+    let few : length (said_nodes draft) ≤ c.args.node_room = omega (arith, said_nodes_length draft) in
     let said = said_nodes_length draft in
     let room = c.requires.2 in
     search rules
@@ -73,11 +66,11 @@ lay_fences-requires c =
 pub returns : goal.returns
 returns c =
     let args = c.args in
-    let bands = args.draft-bands.now in
-    let draft = args.draft-nodes.now in
+    let bands = args.draft_bands.now in
+    let draft = args.draft_nodes.now in
     let pre = c.requires in
     let fit = c.if-mark_room-sum.false in
-    let few = nodes_fit_lem c.before.before.before.before.before.before.before.before.before.before.before.before.before.before.before.before.before.before.before.before.before.before.before.before.before.before.before in (
+    let few : length (said_nodes draft) ≤ c.args.node_room = omega (arith, said_nodes_length draft) in (
       sym ((fit_refusal_zero (room_of args.node_room args.mark_room) (said_by bands draft)).1
           (few, sum_within bands pre.0 pre.1 c.lay_links.ensures pre.4 c.count-sum.ensures fit)),
       λ e.

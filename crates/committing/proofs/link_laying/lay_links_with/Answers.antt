@@ -12,15 +12,6 @@ use Rattle.linking.proofs.PlacesAhead.{Ahead, none_ahead, ahead_before}
 use Rattle.committing.proofs.LinkLaying.{linked_from_field, no_place_linked, level_kept, one_more_node_linked, header_linked}
 use Rattle.committing.proofs.link_laying.lay_links_with.Goals as goal
 
--- the level read at the place is the one it had at the start
-level_here : (c : tie.After-node-word2 invariant-loop decreases-loop)
-    → c.node-word2.result
-    ≡ node_field
-    c.before.before.before.before.before.before.before.before.args.draft.now
-    c.before.before.before.loop.place
-    level_field
-level_here c = c.node-word2.ensures.0 ∙ level_kept _ _ _ _ c.before.before.before.loop.invariant.3
-
 pub loop-place-init : goal.loop-place-init
 loop-place-init c = (
   none_ahead _ _ _ c.node_word-place.ensures.0 c.requires,
@@ -31,11 +22,12 @@ loop-place-init c = (
 
 pub loop-place-preserved : goal.loop-place-preserved
 loop-place-preserved c =
-    (
+    -- the level read at the place is the one it had at the start
+    let level_here = c.node_word-level.ensures.0 ∙ level_kept _ _ _ _ c.loop-place.invariant.3 in (
       ahead_before _ _ _ _ _
           c.loop-place-test.true
           c.loop-place.invariant.1
-          (level_here c.before.before.before.before.before.before.before.before.before)
+          level_here
           c.raise.ensures
           c.loop-place.invariant.0,
       omega arith,
@@ -43,7 +35,7 @@ loop-place-preserved c =
       one_more_node_linked _ _ _ _ _ _
           c.loop-place-test.true
           c.loop-place.invariant.1
-          (level_here c.before.before.before.before.before.before.before.before.before)
+          level_here
           c.loop-place.invariant.0
           c.loop-place.invariant.3
           c.put_links.ensures,

@@ -13,15 +13,14 @@ pub loop-lane-init : goal.loop-lane-init
 loop-lane-init c = (omega arith, no_lane_laid _ _ _ _)
 
 pub loop-lane-preserved : goal.loop-lane-preserved
-loop-lane-preserved c =
-    (
-      omega arith,
-      one_more_lane_laid _ _ _ _ _ _ _ _ _
-          (omega arith)
-          c.link_due.ensures.0
-          c.put_node_word.ensures
-          c.loop-lane.invariant.1,
-    )
+loop-lane-preserved c = (
+  omega arith,
+  one_more_lane_laid _ _ _ _ _ _ _ _ _
+      (omega arith)
+      c.link_due.ensures.0
+      c.put_node_word.ensures
+      c.loop-lane.invariant.1,
+)
 
 pub shape_of-draft : goal.shape_of-draft
 shape_of-draft c = c.loop-lane.invariant.1.size
