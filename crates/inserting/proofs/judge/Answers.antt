@@ -11,30 +11,20 @@ use Rattle.store.specs.Sound.{sound}
 use Rattle.inserting.proofs.InsertSteps.{insert_judged_by_1, insert_judged_by_fault, insert_judged_by_8, insert_judged_by_none}
 use Rattle.inserting.proofs.judge.Goals as goal
 
--- past the first test memory is sound
-is_sound : (c : tie.Else1)
-    → sound
-    (lent
-    c.before.before.before.before.before.args.bands.now
-    c.before.before.before.before.before.args.nodes.now
-    c.before.before.before.before.before.args.marks.now)
-    ≡ true
-is_sound c = sym (ap (λ o. o.told) c.before.check.ensures) ∙ not-false _ c.if1.false
-
 pub returns-then-not-check : goal.returns-then-not-check
 returns-then-not-check c = insert_judged_by_1 _ _ _ _ (sym (ap (λ o. o.told) c.check.ensures) ∙ c.if-not-check.true)
 
 pub returns-then-is_live : goal.returns-then-is_live
 returns-then-is_live c =
     let none = sym (ap answer_says c.in-Done.is) ∙ c.fault_with.ensures in
-    insert_judged_by_8 _ _ _ _ (is_sound c.before.before.before.before.before.before) none (sym c.is_live.ensures ∙ c.if-is_live.true)
+    insert_judged_by_8 _ _ _ _ (sym (ap (λ o. o.told) c.check.ensures) ∙ c.if-not-check.false) none (sym c.is_live.ensures ∙ c.if-is_live.true)
 
 pub returns-in-Refused : goal.returns-in-Refused
 returns-in-Refused c =
     let fault = sym (ap answer_says c.in-Refused.is) ∙ c.fault_with.ensures in
-    insert_judged_by_fault _ _ _ _ (is_sound c.before.before.before.before) _ fault (no_refusal_says_0 c.in-Refused.refusal)
+    insert_judged_by_fault _ _ _ _ (sym (ap (λ o. o.told) c.check.ensures) ∙ c.if-not-check.false) _ fault (no_refusal_says_0 c.in-Refused.refusal)
 
 pub returns-else-is_live : goal.returns-else-is_live
 returns-else-is_live c =
     let none = sym (ap answer_says c.in-Done.is) ∙ c.fault_with.ensures in
-    insert_judged_by_none _ _ _ _ (is_sound c.before.before.before.before.before.before) none (sym c.is_live.ensures ∙ c.if-is_live.false)
+    insert_judged_by_none _ _ _ _ (sym (ap (λ o. o.told) c.check.ensures) ∙ c.if-not-check.false) none (sym c.is_live.ensures ∙ c.if-is_live.false)
