@@ -4,7 +4,7 @@
 -- AskingRefused in asking.)
 -- Assumes nothing.
 use Prim.Native.Nat.{ℕ}
-use mathlib.Core.Path.{◌≡◌, ap}
+use mathlib.Core.Path.{◌≡◌, sym, ap, subst}
 use mathlib.Core.Bool.{true}
 use mathlib.Core.Logic.{◌↔◌, ⊎_elim}
 use mathlib.Core.List.{◌∷◌, map}
@@ -45,7 +45,7 @@ module _ (m : Memory) (c : Call) where
 
   -- it answers 0 or a number of its own lines
   pub no_other_number : In (refusal_of m c) (0 ∷ numbers_of c)
-  no_other_number = rw refused_by_lines (call_no_other_number (known_in m) c)
+  no_other_number = subst (λ (n : ℕ). In n (0 ∷ numbers_of c)) (sym refused_by_lines) (call_no_other_number (known_in m) c)
 
 -- so of the paper's calls, with any arguments, the lowest number that applies is given
 pub papers_refused_by_lowest : (m : Memory) (b : Band) (lo hi number scope key lane : ℕ)
