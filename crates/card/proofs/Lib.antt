@@ -5,7 +5,6 @@
 --   Records        the records kept as words; those that are read tell what all of them tell
 --   RecordsLaid    a record that was laid is read back, and the others stand; a card kept in the first words has it at its end
 --   Gathered       the records gathered into an array: the invariant of that loop
---   ArrayInParts   an array in a local, cut in two where its first elements are lent
 --   CardExact      what an answer that meets the promise means
 --   Settled        no second outcome meets a promise
 pub mod LentBands
@@ -14,6 +13,5 @@ pub mod PassSoFar
 pub mod Records
 pub mod RecordsLaid
 pub mod Gathered
-pub mod ArrayInParts
 pub mod CardExact
 pub mod Settled

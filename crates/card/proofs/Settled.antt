@@ -12,6 +12,7 @@ use prog.Routine.{Routine}
 use types.Logic.{Logic}
 use contract.Lifetimes.{Lfts}
 use contract.Monad.{Fun, fact}
+use denote.MutBor.{MutBor}
 use denote.Ref.{Bor}
 use denote.Triple.Clauses.{AtExit}
 use Rattle.rules.specs.BenchCard.{Scan as RuledScan, scan_of}
@@ -64,7 +65,7 @@ scan_words_settled κs given x y a b p q = (scan_told_back a b p.0 q.0, p.1 ∙ 
 
 -- the words, the index and the band
 abbrev Laying : Type 0
-Laying = Bor (List ℕ) × (ℕ × (Band × Unit {0}))
+Laying = MutBor (List ℕ) × (ℕ × (Band × Unit {0}))
 
 pub lay_record_settled : (κs : Lfts 1) (given x y : Laying) (a b : Unit {0}) → lay_promise κs given a x → lay_promise κs given b y → x.0.now ≡ y.0.now
 lay_record_settled κs given x y a b p q = p ∙ sym q

@@ -1,5 +1,4 @@
-// The card over a lent slice of bands.
-// The borrow checker follows no reference to a struct: this function is walked by hand, so it does nothing but read a band, take it apart and call.
+// The card over a lent slice of bands: one thin function, which reads a band, takes it apart and calls.
 ghost use Rattle.std.specs.Prelude.{◌≡◌};
 ghost use Rattle.rules.specs.BenchCard.{scan_of};
 ghost use Rattle.card.specs.Records.{bands_of};
@@ -11,7 +10,7 @@ use hall::{Band, Key};
 // Scans the records for a key: the first thing wrong and its place, or the numbers of the records that hold the key.
 pub fn scan(cards: &[Band], key: Key) -> Scan
     ensures { (scan_says result ≡ scan_of (bands_of cards.now) key.0)
-        × (cards.now ≡ cards.now) }
+        × (cards.exit.now ≡ cards.entry.now) }
 {
     let mut pass = Pass::begin(key);
     let mut at = 0;

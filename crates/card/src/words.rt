@@ -1,5 +1,5 @@
 // The card kept as words, six to a record: number, scope, low, high, low closed, high closed. An end is open where its word is 0, else closed.
-// The two public functions have plain parameters, so that their callers need no walk by hand.
+// The two public functions have plain parameters, for callers that keep no bands.
 ghost use Rattle.std.specs.Prelude.{◌≡◌, ◌<◌, ◌≤◌, ◌/◌, length, take};
 ghost use Rattle.rules.specs.BenchCard.{scan_of};
 ghost use Rattle.rules.specs.Connectives.{one_if};
@@ -19,7 +19,7 @@ pub const MOST_RECORDS: usize = 1100;
 // Scans all whole records among the words. Those left unread come after a bad one and play no part.
 pub fn scan_words(words: &[u32], key: Key) -> Scan
     ensures { (scan_says result ≡ scan_of (records_in words.now) key.0)
-        × (words.now ≡ words.now) }
+        × (words.exit.now ≡ words.entry.now) }
 {
     let count = record_count(words);
     let cards = gather(words, count);
@@ -97,8 +97,7 @@ fn gather(words: &[u32], count: usize) -> [Band; MOST_RECORDS]
     cards
 }
 
-// Lends the first `count` of an array of bands: the borrow checker follows no reference to a struct, so this function is walked by hand and does
-// nothing but lend and call.
+// Lends the first `count` of an array of bands to the scan.
 fn scan_first(cards: [Band; MOST_RECORDS], count: usize, key: Key) -> Scan
     requires { count ≤ most_records }
     ensures { scan_says result ≡ scan_of (bands_of (take count cards)) key.0 }

@@ -2,7 +2,6 @@
 -- Assumes nothing.
 use mathlib.Core.Path.{sym}
 use native.Mathlib.Omega.{arith}
-use borrow.Author.Rules.{rules}
 use lib.ListN.{length-set}
 use Rattle.card.proofs.RecordsLaid.{record_out, record_stored}
 use Rattle.card.proofs.words.lay_record.Goals as goal

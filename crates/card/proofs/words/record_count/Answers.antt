@@ -4,10 +4,6 @@ use native.Mathlib.Omega.{arith}
 use Rattle.card.specs.Records.{read_count}
 use Rattle.card.proofs.words.record_count.Goals as goal
 
-pub record_count_spec : {M : Type 1} → statement M
-
-record_count_spec = tie.close (tie.spec returns returns-2)
-
 pub returns-then-whole-lt-MOST_RECORDS : goal.returns-then-whole-lt-MOST_RECORDS
 unfolding read_count
 returns-then-whole-lt-MOST_RECORDS c = omega arith

@@ -4,18 +4,12 @@ use Prim.Native.Nat.{ℕ}
 use mathlib.Core.Path.{refl, ap, ◌∙◌}
 use mathlib.Core.List.{List}
 use native.Mathlib.Omega.{arith}
-use borrow.Author.Rules.{rules}
 use lib.ListN.{take}
 use Rattle.rules.specs.HallLine.{Band}
 use Rattle.rules.specs.BenchCard.{scan_of}
 use Rattle.card.specs.Records.{records_in}
 use Rattle.card.proofs.Records.{count_at_most, read_enough}
 use Rattle.card.proofs.words.scan_words.Goals as goal
-
-record-count-requires c κs = search rules
-
-pub record_count-count-requires : goal.record_count-count-requires
-
 
 pub scan_first-requires : goal.scan_first-requires
 scan_first-requires c = omega (arith, count_at_most c.args.words.now)

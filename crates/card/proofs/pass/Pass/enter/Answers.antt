@@ -1,6 +1,5 @@
 -- `card::Pass::enter` meets its contract.
 -- Assumes nothing.
-use borrow.Author.Rules.{rules}
 use Rattle.card.specs.Pass.{entered_of}
 use Rattle.card.proofs.pass.Pass.enter.Goals as goal
 

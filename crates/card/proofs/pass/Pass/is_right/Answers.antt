@@ -1,7 +1,6 @@
 -- `card::Pass::is_right` meets its contract: no refusal says 0.
 -- Assumes nothing.
 use mathlib.Core.Path.{sym, ap, ◌∙◌}
-use borrow.Author.Rules.{rules}
 use borrow.Author.Tests.{ne_eqb}
 use lib.Dec.{eqb}
 use Rattle.hall.specs.Says.{answer_says}

@@ -2,7 +2,6 @@
 -- Assumes nothing.
 use mathlib.Core.Path.{sym, ap, ◌∙◌}
 use mathlib.Core.Bool.{Bool, cond}
-use borrow.Author.Rules.{rules}
 use Rattle.hall.specs.Says.{answer_says}
 use Rattle.hall.proofs.OneToOne.{no_refusal_says_0}
 use Rattle.card.proofs.PassIsScan.{judged_by_band, judged_by_number}

@@ -1,6 +1,5 @@
 -- `card::Pass::told` meets its contract: the count is the ones of the flags.
 -- Assumes nothing.
-use borrow.Author.Rules.{rules}
 use Rattle.card.proofs.pass.Pass.told.Goals as goal
 
 pub returns : goal.returns
