@@ -1,57 +1,37 @@
 -- A record that was laid among the words is read back, and the other records stand as they did: among all records it alone is set. So a card kept
 -- in the first words has one record more, at its end, where one is laid next.
 -- Assumes nothing.
-use Prim.Native.Nat.{ℕ, ◌+◌, ◌*◌, ◌/◌, ◌≤◌, ◌<◌}
+use Prim.Native.Nat.{ℕ, ◌+◌, ◌*◌, ◌/◌, ◌<◌}
 use native.Mathlib.Nat.{add-zero}
-use native.Mathlib.Numerals.{add-one, towards_suc}
+use native.Mathlib.Numerals.{add-one}
 use native.Mathlib.Omega.{arith}
 use mathlib.Core.Path.{◌≡◌, refl, sym, ap, ◌∙◌}
 use mathlib.Core.Bool.{Bool, true, false}
 use mathlib.Core.List.{List, [], ◌∷◌, ◌++◌}
-use borrow.Author.Tests.{ltb-true, ltb-false, lt-ltb, le-ltb, eqb-true, eqb-false}
+use borrow.Author.Tests.{ltb-true, ltb-false, eqb-true, eqb-false}
 use lib.Dec.{ltb, eqb}
 use lib.ListN.{length, get_or, take, set, length-set}
-use lib.Seq.{sets, length-sets, get_or-set_same, get_or-set_other, set_out, take-suc-set, ext_get_or}
-use Rattle.rules.specs.Connectives.{one_if}
+use lib.Seq.{length-sets, get_or-set_same, get_or-set_other, set_out, take-suc-set, ext_get_or}
 use Rattle.rules.specs.HallLine.{Band}
 use Rattle.rules.proofs.Connectives.{one_if_says}
 use Rattle.rules.proofs.Lists.{stored_before, stored_after, stored_at}
 use Rattle.card.specs.Records.{record_at, records_in, words_of, with_record}
+use Rattle.card.proofs.RecordStored.{laid, record_out, with_record_lem}
 use Rattle.card.proofs.Records.{records_length, record_at_index, records_in_first_words}
 
 -- ---- a record
 
 module _ (ws : List ℕ) (i : ℕ) (b : Band) where
-  -- the six stores
-  abbrev laid : List ℕ
-  laid = sets ws (i * 6) (words_of b)
-
-  -- past them nothing changes
-  pub record_out : length ws / 6 ≤ i → with_record ws i b ≡ ws
-  unfolding with_record
-  record_out h = rw (le-ltb i (length ws / 6) h)
-
   module _ (h : i < length ws / 6) where
-    -- below the whole places it is the six stores
-    with_record_lem : with_record ws i b ≡ laid
-    unfolding with_record
-    with_record_lem = rw (lt-ltb i (length ws / 6) h)
-
-    -- one store after the other, as code makes them
-    pub record_stored : with_record ws i b
-        ≡ set (set (set (set (set (set ws (i * 6) b.number) (i * 6 + 1) b.scope) (i * 6 + 2) b.low) (i * 6 + 3) b.high)
-        (i * 6 + 4) (one_if b.low_closed)) (i * 6 + 5) (one_if b.high_closed)
-    record_stored = with_record_lem ∙ simp towards_suc
-
-    word : (k : ℕ) → k < 6 → get_or laid (i * 6 + k) 0 ≡ get_or (words_of b) k 0
+    word : (k : ℕ) → k < 6 → get_or (laid ws i b) (i * 6 + k) 0 ≡ get_or (words_of b) k 0
     word k m = stored_at ws (words_of b) (i * 6) k 0 (omega arith) m
 
     record_laid : record_at (with_record ws i b) i ≡ b
     unfolding record_at
     record_laid =
-        let first : get_or laid (i * 6) 0 ≡ b.number = ap (λ (j : ℕ). get_or laid j 0) (sym (add-zero (i * 6))) ∙ word 0 (omega arith) in
+        let first : get_or (laid ws i b) (i * 6) 0 ≡ b.number = ap (λ (j : ℕ). get_or (laid ws i b) j 0) (sym (add-zero (i * 6))) ∙ word 0 (omega arith) in
         rw (
-          with_record_lem,
+          with_record_lem ws i b h,
           first,
           word 1 (omega arith),
           word 2 (omega arith),
@@ -62,19 +42,19 @@ module _ (ws : List ℕ) (i : ℕ) (b : Band) where
           one_if_says b.high_closed,
         )
 
-    other_word : (j k : ℕ) → (j ≡ i → ⊥) → k < 6 → get_or laid (j * 6 + k) 0 ≡ get_or ws (j * 6 + k) 0
+    other_word : (j k : ℕ) → (j ≡ i → ⊥) → k < 6 → get_or (laid ws i b) (j * 6 + k) 0 ≡ get_or ws (j * 6 + k) 0
     other_word j k n m = go (ltb j i) refl
       where
-        go : (t : Bool) → ltb j i ≡ t → get_or laid (j * 6 + k) 0 ≡ get_or ws (j * 6 + k) 0
+        go : (t : Bool) → ltb j i ≡ t → get_or (laid ws i b) (j * 6 + k) 0 ≡ get_or ws (j * 6 + k) 0
         go true e = let l = ltb-true j i e in stored_before ws (words_of b) (i * 6) (j * 6 + k) 0 (omega arith)
         go false e = let l = ltb-false j i e in stored_after ws (words_of b) (i * 6) (j * 6 + k) 0 (omega arith)
 
     other_record_kept : (j : ℕ) → (j ≡ i → ⊥) → record_at (with_record ws i b) j ≡ record_at ws j
     unfolding record_at
     other_record_kept j n =
-        let first : get_or laid (j * 6) 0 ≡ get_or ws (j * 6) 0 = rw add-zero at (other_word j 0 n (omega arith)) in
+        let first : get_or (laid ws i b) (j * 6) 0 ≡ get_or ws (j * 6) 0 = rw add-zero at (other_word j 0 n (omega arith)) in
         rw (
-          with_record_lem,
+          with_record_lem ws i b h,
           first,
           other_word j 1 n (omega arith),
           other_word j 2 n (omega arith),

@@ -3,7 +3,7 @@
 use mathlib.Core.Path.{sym}
 use native.Mathlib.Omega.{arith}
 use lib.ListN.{length-set}
-use Rattle.card.proofs.RecordsLaid.{record_out, record_stored}
+use Rattle.card.proofs.RecordStored.{record_out, record_stored}
 use Rattle.card.proofs.words.lay_record.Goals as goal
 
 pub bounds-words-first-then-at-words : goal.bounds-words-first-then-at-words
