@@ -23,6 +23,7 @@ use Rattle.card.specs.Records.{bands_of}
 use Rattle.card.specs.Says.{scan_says}
 use Rattle.card.specs.declared.pass.Scan.{Scan}
 use Rattle.card.specs.contracts.bands.scan as scan
+use Rattle.card.proofs.bands.scan.Reads.{Post as scan_promise}
 use Rattle.card.proofs.words.lay_record.Reads.{Post as lay_promise}
 use Rattle.card.proofs.words.scan_words.Reads.{Post as scan_words_promise}
 
@@ -43,11 +44,15 @@ Given = Bor (List Band) × (Key × Unit {0})
 abbrev pub ScanPromise : Given → Scan → List Band → Type 0
 ScanPromise given r after = (scan_says r ≡ scan_of (bands_of given.0.now) given.1.0.0) × (after ≡ given.0.now)
 
--- .. is what the `ensures` says, no less and no more: the borrow checker reads no such clause, so it is read here
+-- .. is what the `ensures` says, no less and no more, in every model ..
 module _ {M : Type 1} {𝓤 : Ura M} (𝓛 : Logic 𝓤) (mem : Memory → SProp 𝓤) (run : Routine → Fun 𝓤) where
   pub promise_is_ensured : (κs : Lfts 1) (given : Given) (r : Scan) (end : AtExit scan.ended κs)
       → (scan.clauses 𝓛 mem run κs given).ensures tt r end ≡ fact 𝓤 (ScanPromise given r end.0.now)
   promise_is_ensured κs given r end = refl
+
+-- .. and as the prover reads it
+pub promise_is_read : (κs : Lfts 1) (given end : Given) (r : Scan) → scan_promise κs given r end ≡ ScanPromise given r end.0.now
+promise_is_read κs given end r = refl
 
 pub scan_settled : (given : Given) (a b : Scan) (x y : List Band) → ScanPromise given a x → ScanPromise given b y
     → (a ≡ b) × (x ≡ y) × (x ≡ given.0.now)
