@@ -9,7 +9,7 @@ use hall::{Band, Key};
 
 // Scans the records for a key: the first thing wrong and its place, or the numbers of the records that hold the key.
 pub fn scan(cards: &[Band], key: Key) -> Scan
-    ensures { (scan_says result ≡ scan_of (bands_of cards.now) key.0)
+    ensures { (scan_says result ≡ scan_of (bands_of cards.entry.now) key.0)
         × (cards.exit.now ≡ cards.entry.now) }
 {
     let mut pass = Pass::begin(key);

@@ -18,7 +18,7 @@ pub const MOST_RECORDS: usize = 1100;
 
 // Scans all whole records among the words. Those left unread come after a bad one and play no part.
 pub fn scan_words(words: &[u32], key: Key) -> Scan
-    ensures { (scan_says result ≡ scan_of (records_in words.now) key.0)
+    ensures { (scan_says result ≡ scan_of (records_in words.entry.now) key.0)
         × (words.exit.now ≡ words.entry.now) }
 {
     let count = record_count(words);
