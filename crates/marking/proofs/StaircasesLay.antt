@@ -1,7 +1,7 @@
 -- The staircases of memory whose nodes are linked and whose profile stands are the profile's marks: band by band along the walks of the rules,
 -- and so slot by slot, each slot past as many as its fence says, and in all as many as the marks in use.
 -- Assumes nothing.
-use Prim.Native.Nat.{ℕ, zero, suc, ◌+◌, ◌*◌, ◌≤◌}
+use Prim.Native.Nat.{ℕ, zero, suc, ◌*◌, ◌≤◌}
 use mathlib.Core.Path.{◌≡◌, refl, sym, ◌∙◌, ap, subst}
 use mathlib.Core.Bool.{Bool, true, false}
 use mathlib.Core.Logic.{inl, inr}

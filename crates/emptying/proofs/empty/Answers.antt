@@ -1,8 +1,6 @@
 -- `emptying::empty` meets its contract.
 -- Assumes nothing.
 use mathlib.Core.Path.{sym, ap, ◌∙◌}
-use borrow.Author.Rules.{rules}
-use borrow.Author.Tests.{not-true, not-false}
 use lib.ListN.{set}
 use Rattle.rules.specs.NodesLanesEdges.{lanes}
 use Rattle.rules.specs.BoxSaysNo.{leaving}

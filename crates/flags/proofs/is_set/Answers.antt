@@ -6,7 +6,6 @@ use native.Mathlib.Omega.{arith}
 use mathlib.Core.Path.{◌≡◌}
 use mathlib.Core.Bool.{false}
 use mathlib.Core.List.{List}
-use borrow.Author.Rules.{rules}
 use lib.Bits.{and_mask}
 use lib.ListN.{length, get_or-eq_default}
 use Rattle.flags.specs.FlagWords.{flag_is_set}

@@ -1,7 +1,6 @@
 -- `inserting::insert` meets its contract: what is judged stands, and where nothing is given the rest is the insert.
 -- Assumes nothing.
 use mathlib.Core.Path.{sym, ap, ◌∙◌}
-use borrow.Author.Rules.{rules}
 use Rattle.hall.specs.Says.{answer_says}
 use Rattle.hall.proofs.OneToOne.{no_refusal_says_0}
 use Rattle.inserting.proofs.InsertSteps.{insert_refused}

@@ -2,7 +2,6 @@
 -- insert.
 -- Assumes nothing.
 use mathlib.Core.Path.{◌∙◌}
-use borrow.Author.Rules.{rules}
 use Rattle.store.proofs.Sound.{sound_means}
 use Rattle.drafting.proofs.WhatStays.{all_stay}
 use Rattle.inserting.proofs.InsertSteps.{insert_on_sound, entry_right, number_free, insert_committed}

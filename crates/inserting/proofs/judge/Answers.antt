@@ -1,13 +1,8 @@
 -- `inserting::judge` meets its contract: at each `return` the tests that led there say which of 1 to 8 is the first that applies.
 -- Assumes nothing.
-use mathlib.Core.Path.{◌≡◌, sym, ap, ◌∙◌}
-use mathlib.Core.Bool.{true}
-use borrow.Author.Rules.{rules}
-use borrow.Author.Tests.{not-true, not-false}
+use mathlib.Core.Path.{sym, ap, ◌∙◌}
 use Rattle.hall.specs.Says.{answer_says}
 use Rattle.hall.proofs.OneToOne.{no_refusal_says_0}
-use Rattle.store.specs.Memory.{lent}
-use Rattle.store.specs.Sound.{sound}
 use Rattle.inserting.proofs.InsertSteps.{insert_judged_by_1, insert_judged_by_fault, insert_judged_by_8, insert_judged_by_none}
 use Rattle.inserting.proofs.judge.Goals as goal
 

@@ -1,13 +1,8 @@
 -- `removing::judge` meets its contract: at each `return` the tests that led there say which of 1, 2, 3, 9 and 10 is the first that
 -- applies.
 -- Assumes nothing.
-use mathlib.Core.Path.{◌≡◌, sym, ap, ◌∙◌}
-use mathlib.Core.Bool.{true}
+use mathlib.Core.Path.{sym, ap, ◌∙◌}
 use native.Mathlib.Omega.{arith}
-use borrow.Author.Rules.{rules}
-use borrow.Author.Tests.{not-true, not-false}
-use Rattle.store.specs.Memory.{lent}
-use Rattle.store.specs.Sound.{sound}
 use Rattle.removing.proofs.RemoveSteps.{remove_judged_by_1, remove_judged_by_2, remove_judged_by_3, remove_judged_by_9, remove_judged_by_10, remove_judged_by_none}
 use Rattle.removing.proofs.judge.Goals as goal
 

@@ -1,7 +1,6 @@
 -- `removing::remove` meets its contract: what is judged stands, and where nothing is given the rest is the remove.
 -- Assumes nothing.
 use mathlib.Core.Path.{sym, ap, ◌∙◌}
-use borrow.Author.Rules.{rules}
 use Rattle.hall.specs.Says.{answer_says}
 use Rattle.hall.proofs.OneToOne.{no_refusal_says_0}
 use Rattle.removing.proofs.RemoveSteps.{remove_refused}

@@ -1,7 +1,6 @@
 -- `removing::remove_with` meets its contract: what sound memory leaves without the number is drafted, and what comes of the draft is the remove.
 -- Assumes nothing.
 use mathlib.Core.Path.{◌∙◌}
-use borrow.Author.Rules.{rules}
 use Rattle.store.proofs.Sound.{sound_means}
 use Rattle.drafting.proofs.WhatStays.{all_but_number}
 use Rattle.removing.proofs.RemoveSteps.{remove_on_sound, number_has_place, remove_committed}

@@ -1,15 +1,10 @@
 -- `asking::band_readout::band` meets its contract: at each `return` the tests that led there say which line is the first that applies.
 -- Assumes nothing.
-use mathlib.Core.Path.{◌≡◌, sym, ap, ◌∙◌}
-use mathlib.Core.Bool.{true}
+use mathlib.Core.Path.{sym, ap, ◌∙◌}
 use mathlib.Core.Option.{some}
 use native.Mathlib.Omega.{arith}
-use borrow.Author.Rules.{rules}
-use borrow.Author.Tests.{not-true, not-false}
 use Rattle.rules.specs.Readouts.{band_read_of}
 use Rattle.rules.specs.BoxSaysNo.{saying}
-use Rattle.store.specs.Sizes.{sizes_right}
-use Rattle.store.specs.Memory.{lent, lengths_in}
 use Rattle.store.proofs.OnlyAsked.{left_as_it_was}
 use Rattle.asking.proofs.CallLines.{band_by_1, band_by_3, band_by_9, band_read_lem}
 use Rattle.asking.proofs.band_readout.band.Goals as goal

@@ -2,7 +2,6 @@
 -- Assumes nothing.
 use mathlib.Core.Path.{ap}
 use mathlib.Core.Option.{some}
-use borrow.Author.Rules.{rules}
 use borrow.Author.Tests.{ne_eqb}
 use Rattle.asking.specs.EdgeCall.{key_at}
 use Rattle.asking.proofs.edge_readout.key_at.Goals as goal

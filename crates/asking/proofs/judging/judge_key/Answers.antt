@@ -1,9 +1,7 @@
 -- `asking::judging::judge_key` meets its contract.
 -- Assumes nothing.
 use mathlib.Core.Path.{sym, ap, ◌∙◌}
-use borrow.Author.Tests.{not-true, not-false}
 use Rattle.rules.specs.BoxSaysNo.{key_fault, stab_refusal}
-use borrow.Author.Rules.{rules}
 use Rattle.asking.proofs.judging.judge_key.Goals as goal
 
 pub returns-then-not-sizes_right : goal.returns-then-not-sizes_right

@@ -2,7 +2,6 @@
 -- Assumes nothing.
 use mathlib.Core.Path.{sym, ap, ◌∙◌}
 use native.Mathlib.Omega.{arith}
-use borrow.Author.Rules.{rules}
 use Rattle.rules.specs.BoxSaysNo.{saying}
 use Rattle.hall.specs.Says.{answer_says}
 use Rattle.hall.proofs.OneToOne.{no_refusal_says_0}

@@ -1,8 +1,6 @@
 -- `asking::room_readout::room` meets its contract.
 -- Assumes nothing.
 use mathlib.Core.Path.{sym, ◌∙◌}
-use borrow.Author.Rules.{rules}
-use borrow.Author.Tests.{not-true, not-false}
 use Rattle.rules.specs.BoxSaysNo.{saying}
 use Rattle.store.proofs.OnlyAsked.{left_as_it_was}
 use Rattle.asking.specs.RoomCall.{said_use}

@@ -3,7 +3,6 @@
 use Prim.Native.Nat.{ℕ}
 use mathlib.Core.Path.{◌≡◌, sym, ap, ◌∙◌}
 use lib.Count.{ones}
-use borrow.Author.Rules.{rules}
 use Rattle.rules.specs.Lists.{sum_of}
 use Rattle.rules.specs.BoxSaysNo.{saying}
 use Rattle.rules.proofs.Flags.{ones_of_flags}

@@ -1,11 +1,7 @@
 -- `checking::band_places::band_places_right` meets its contract. The loop's invariant: the test of the places from here on equals that of all.
 -- Assumes nothing.
-use Prim.Native.Nat.{◌-◌}
 use native.Mathlib.Omega.{arith}
-use mathlib.Core.Path.{◌≡◌, refl, sym, ◌∙◌}
-use borrow.Author.Rules.{rules}
-use borrow.Author.Tests.{not-true, not-false}
-use Rattle.rules.specs.Lists.{all_from}
+use mathlib.Core.Path.{refl, sym, ◌∙◌}
 use Rattle.rules.proofs.Lists.{all_stopped, all_onward, all_done}
 use Rattle.store.specs.Sizes.{band_places}
 use Rattle.checking.specs.BandPlaces.{band_place_right, band_places_right}

@@ -1,7 +1,6 @@
 -- `checking::band_places::place_free` meets its contract.
 -- Assumes nothing.
 use Rattle.checking.specs.BandPlaces.{band_place_free}
-use borrow.Author.Rules.{rules}
 use Rattle.checking.proofs.band_places.place_free.Goals as goal
 
 pub returns : goal.returns

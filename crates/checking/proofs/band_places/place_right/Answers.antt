@@ -6,7 +6,6 @@ use mathlib.Core.Bool.{Bool, true, false}
 use mathlib.Core.List.{List}
 use Rattle.rules.specs.Connectives.{◌or◌}
 use Rattle.checking.specs.BandPlaces.{band_place_free, band_place_taken, band_place_right}
-use borrow.Author.Rules.{rules}
 use Rattle.checking.proofs.band_places.place_right.Goals as goal
 
 -- a place that is free is right, and another is where it has a right band

@@ -1,14 +1,8 @@
 -- `checking::ends::all_noted` meets its contract. The loop's invariant: testing from here on decides as testing all does.
 -- Assumes nothing.
 use Prim.Native.Nat.{◌+◌, ◌-◌, ◌≤◌}
-use mathlib.Core.Path.{◌≡◌, sym, ◌∙◌, ap}
-use mathlib.Core.Bool.{not}
-use native.Mathlib.Omega.{arith}
-use borrow.Author.Rules.{rules}
-use borrow.Author.Tests.{ne_eqb}
-use Rattle.rules.specs.Connectives.{says_yes}
+use mathlib.Core.Path.{◌≡◌}
 use Rattle.rules.specs.Lists.{all_from}
-use Rattle.rules.proofs.Lists.{all_stopped, all_onward, all_done}
 use Rattle.linking.specs.EndPlaces.{is_noted}
 use Rattle.checking.specs.Ends.{all_noted}
 use Rattle.checking.proofs.ends.all_noted.Given as goal

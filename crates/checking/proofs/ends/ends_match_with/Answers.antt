@@ -1,6 +1,5 @@
 -- `checking::ends::ends_match_with` meets its contract.
 -- Assumes nothing.
-use borrow.Author.Rules.{rules}
 use Rattle.checking.proofs.EndSteps.{matched_by_notes}
 use Rattle.checking.proofs.ends.ends_match_with.Goals as goal
 

@@ -1,13 +1,9 @@
 -- `checking::links::links_due` meets its contract. The loop's invariant: the test of the lanes from here on is that of all lanes.
 -- Assumes nothing.
-use Prim.Native.Nat.{◌-◌}
-use mathlib.Core.Path.{◌≡◌, refl, sym, ◌∙◌}
-use borrow.Author.Rules.{rules}
+use mathlib.Core.Path.{refl, sym, ◌∙◌}
 use borrow.Author.Tests.{eq-eqb, ne_eqb}
-use Rattle.rules.specs.Lists.{all_from}
-use Rattle.rules.specs.NodesLanesEdges.{lanes}
 use Rattle.rules.proofs.Lists.{all_stopped, all_onward, all_done}
-use Rattle.checking.specs.Links.{link_by_ahead, links_due}
+use Rattle.checking.specs.Links.{links_due}
 use Rattle.checking.proofs.links.links_due.Goals as goal
 
 pub loop-lane-init : goal.loop-lane-init

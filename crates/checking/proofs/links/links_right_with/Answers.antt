@@ -1,17 +1,12 @@
 -- `checking::links::links_right_with` meets its contract. The loop's invariant: the first places ahead of the place are known, and the test of the
 -- links up to it is that of all links.
 -- Assumes nothing.
-use Prim.Native.Nat.{◌≤◌, ◌<◌, ◌^◌}
-use mathlib.Core.Path.{◌≡◌, sym, ◌∙◌, ap}
+use mathlib.Core.Path.{sym, ◌∙◌, ap}
 use native.Mathlib.Omega.{arith}
-use borrow.Author.Rules.{rules}
-use borrow.Author.Tests.{not-true, not-false}
 use lib.ListN.{length}
 use Rattle.linking.proofs.NextPlaces.{node_lanes}
-use Rattle.linking.proofs.PlacesAhead.{Ahead, none_ahead, ahead_before}
-use Rattle.checking.specs.Links.{place_links_right, links_right}
-use Rattle.checking.proofs.LinkSteps.{links_by_ahead, links_up_to, all_links, links_stopped, links_onward, links_at_header}
-use Rattle.store.specs.Places.{in_use}
+use Rattle.linking.proofs.PlacesAhead.{none_ahead, ahead_before}
+use Rattle.checking.proofs.LinkSteps.{links_by_ahead, all_links, links_stopped, links_onward, links_at_header}
 use Rattle.checking.proofs.links.links_right_with.Goals as goal
 
 pub loop-place-init : goal.loop-place-init

@@ -2,15 +2,10 @@
 -- links up to it is that of all links.
 -- Assumes nothing.
 use Prim.Native.Nat.{◌≤◌, ◌<◌, ◌^◌}
-use mathlib.Core.Path.{◌≡◌, sym, ◌∙◌, ap}
-use native.Mathlib.Omega.{arith}
-use borrow.Author.Rules.{rules}
-use borrow.Author.Tests.{not-true, not-false}
-use lib.ListN.{length}
-use Rattle.linking.proofs.NextPlaces.{node_lanes}
-use Rattle.linking.proofs.PlacesAhead.{Ahead, none_ahead, ahead_before}
-use Rattle.checking.specs.Links.{place_links_right, links_right}
-use Rattle.checking.proofs.LinkSteps.{links_by_ahead, links_up_to, all_links, links_stopped, links_onward, links_at_header}
+use mathlib.Core.Path.{◌≡◌}
+use Rattle.linking.proofs.PlacesAhead.{Ahead}
+use Rattle.checking.specs.Links.{links_right}
+use Rattle.checking.proofs.LinkSteps.{links_up_to}
 use Rattle.store.specs.Places.{in_use}
 use Rattle.checking.proofs.links.links_right_with.Given as goal
 

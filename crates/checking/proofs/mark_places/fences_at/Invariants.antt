@@ -1,12 +1,8 @@
 -- `checking::mark_places::fences_at` meets its contract. The loop's invariant: the fences of the places from here on are right exactly when all are.
 -- Assumes nothing.
 use Prim.Native.Nat.{◌+◌, ◌-◌, ◌≤◌}
-use native.Mathlib.Omega.{arith}
-use mathlib.Core.Path.{◌≡◌, sym, ◌∙◌, ap}
-use borrow.Author.Rules.{rules}
-use borrow.Author.Tests.{not-true, not-false}
+use mathlib.Core.Path.{◌≡◌}
 use Rattle.rules.specs.Lists.{all_from}
-use Rattle.rules.proofs.Lists.{all_stopped, all_onward, all_done}
 use Rattle.checking.specs.MarkPlaces.{place_fences_at, fences_at}
 use Rattle.store.specs.Places.{in_use}
 use Rattle.checking.proofs.mark_places.fences_at.Given as goal

@@ -1,6 +1,5 @@
 -- `checking::mark_places::marks_as_laid` meets its contract.
 -- Assumes nothing.
-use borrow.Author.Rules.{rules}
 use Rattle.checking.proofs.MarkSteps.{against_draft}
 use Rattle.checking.proofs.mark_places.marks_as_laid.Goals as goal
 

@@ -4,7 +4,6 @@ use mathlib.Core.Path.{refl, ap}
 use lib.Dec.{eqb}
 use Rattle.rules.proofs.Connectives.{both}
 use Rattle.checking.specs.MarkPlaces.{marks_in_use_right}
-use borrow.Author.Rules.{rules}
 use Rattle.checking.proofs.mark_places.marks_in_use_right.Goals as goal
 
 pub returns : goal.returns

@@ -2,14 +2,11 @@
 -- Assumes nothing.
 use Prim.Native.Nat.{ℕ}
 use native.Mathlib.Omega.{arith}
-use mathlib.Core.Path.{◌≡◌, sym, ◌∙◌, ap}
-use mathlib.Core.Bool.{true}
+use mathlib.Core.Path.{sym, ◌∙◌, ap}
 use borrow.Author.Rules.{rules}
-use borrow.Author.Tests.{not-true, not-false}
 use lib.ListN.{length, length-replicate}
 use Rattle.rules.specs.Room.{most_marks}
 use Rattle.marking.proofs.Counted.{zeros_have_room, counted_up_to}
-use Rattle.checking.specs.MarkPlaces.{marks_in_use_right}
 use Rattle.checking.proofs.MarkSteps.{in_use_wrong, counts_fit, fences_wrong, marks_left}
 use Rattle.checking.proofs.mark_places.marks_right_with.Goals as goal
 

@@ -2,13 +2,11 @@
 -- Assumes nothing.
 use Prim.Native.Nat.{suc, ◌-◌, ◌+◌, ◌*◌, ◌≤◌, ◌<◌}
 use native.Mathlib.Omega.{arith}
-use mathlib.Core.Path.{◌≡◌, refl, sym, ◌∙◌}
-use borrow.Author.Rules.{rules}
+use mathlib.Core.Path.{refl, sym, ◌∙◌}
 use borrow.Author.Tests.{eq-eqb, ne_eqb}
-use Rattle.rules.specs.Lists.{all_from}
 use Rattle.rules.specs.Staircase.{slots_per_node, slot_number}
 use Rattle.rules.proofs.Lists.{all_stopped, all_onward, all_done}
-use Rattle.checking.specs.MarkPlaces.{fence_at, place_fences_at}
+use Rattle.checking.specs.MarkPlaces.{place_fences_at}
 use Rattle.checking.proofs.mark_places.place_fences_at.Goals as goal
 
 pub loop-slot-init : goal.loop-slot-init

@@ -1,13 +1,9 @@
 -- `checking::mark_places::place_fences_at` meets its contract. The loop's invariant: the fences from here on are right exactly when all ten are.
 -- Assumes nothing.
-use Prim.Native.Nat.{suc, ◌-◌, ◌+◌, ◌*◌, ◌≤◌, ◌<◌}
-use native.Mathlib.Omega.{arith}
-use mathlib.Core.Path.{◌≡◌, refl, sym, ◌∙◌}
-use borrow.Author.Rules.{rules}
-use borrow.Author.Tests.{eq-eqb, ne_eqb}
+use Prim.Native.Nat.{suc, ◌-◌}
+use mathlib.Core.Path.{◌≡◌}
 use Rattle.rules.specs.Lists.{all_from}
-use Rattle.rules.specs.Staircase.{slots_per_node, slot_number}
-use Rattle.rules.proofs.Lists.{all_stopped, all_onward, all_done}
+use Rattle.rules.specs.Staircase.{slots_per_node}
 use Rattle.checking.specs.MarkPlaces.{fence_at, place_fences_at}
 use Rattle.checking.proofs.mark_places.place_fences_at.Given as goal
 

@@ -1,13 +1,10 @@
 -- `checking::mark_places::same_words` meets its contract. The loop's invariant: the words from here on are the same exactly when all are.
 -- Assumes nothing.
 use Prim.Native.Nat.{◌-◌}
-use native.Mathlib.Nat.{sub-zero}
-use mathlib.Core.Path.{◌≡◌, sym, ◌∙◌}
-use borrow.Author.Rules.{rules}
-use borrow.Author.Tests.{eq-eqb, ne_eqb}
+use mathlib.Core.Path.{◌≡◌}
 use lib.ListN.{length, take}
 use Rattle.rules.specs.Lists.{all_from, same_numbers}
-use Rattle.rules.proofs.Lists.{all_stopped, all_onward, all_done, same_at, same_at_each}
+use Rattle.rules.proofs.Lists.{same_at}
 use Rattle.checking.proofs.mark_places.same_words.Given as goal
 
 abbrev pub invariant-loop-at : goal.invariant-loop-at

@@ -5,7 +5,6 @@ use lib.Dec.{eqb}
 use Rattle.rules.specs.NodesLanesEdges.{lanes}
 use Rattle.rules.proofs.Connectives.{both}
 use Rattle.checking.specs.NodePlaces.{header_right}
-use borrow.Author.Rules.{rules}
 use Rattle.checking.proofs.node_places.header_right.Goals as goal
 
 pub returns : goal.returns

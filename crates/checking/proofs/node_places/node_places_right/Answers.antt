@@ -3,7 +3,6 @@
 use Rattle.rules.proofs.Connectives.{both}
 use Rattle.checking.specs.NodePlaces.{node_places_right}
 use Rattle.checking.proofs.TestsInOrder.{decided, left_to_next}
-use borrow.Author.Rules.{rules}
 use Rattle.checking.proofs.node_places.node_places_right.Goals as goal
 
 pub returns-then-not-nodes_fit : goal.returns-then-not-nodes_fit

@@ -1,7 +1,6 @@
 -- `checking::node_places::node_right` meets its contract: its tests are those of a right node.
 -- Assumes nothing.
 use mathlib.Core.Path.{refl, ap, ap₂}
-use borrow.Author.Rules.{rules}
 use lib.Dec.{leb, ltb}
 use Rattle.rules.specs.NodesLanesEdges.{lanes, is_level}
 use Rattle.rules.proofs.Connectives.{both, either}

@@ -6,7 +6,6 @@ use lib.Dec.{ltb}
 use lib.ListN.{length}
 use Rattle.store.specs.Sizes.{node_place_words}
 use Rattle.checking.specs.NodePlaces.{nodes_fit}
-use borrow.Author.Rules.{rules}
 use Rattle.checking.proofs.node_places.nodes_fit.Goals as goal
 
 pub returns : goal.returns

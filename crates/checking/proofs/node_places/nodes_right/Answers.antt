@@ -3,8 +3,6 @@
 use Prim.Native.Nat.{◌+◌, ◌-◌, ◌≤◌}
 use mathlib.Core.Path.{◌≡◌, sym, ◌∙◌, ap}
 use native.Mathlib.Omega.{arith}
-use borrow.Author.Rules.{rules}
-use borrow.Author.Tests.{not-true, not-false}
 use Rattle.rules.specs.Lists.{all_from}
 use Rattle.rules.proofs.Lists.{all_stopped, all_onward, all_done}
 use Rattle.checking.specs.NodePlaces.{node_right, nodes_right}

@@ -1,12 +1,8 @@
 -- `checking::node_places::nodes_right` meets its contract. The loop's invariant: the test from here on is the test from the first node.
 -- Assumes nothing.
 use Prim.Native.Nat.{◌+◌, ◌-◌, ◌≤◌}
-use mathlib.Core.Path.{◌≡◌, sym, ◌∙◌, ap}
-use native.Mathlib.Omega.{arith}
-use borrow.Author.Rules.{rules}
-use borrow.Author.Tests.{not-true, not-false}
+use mathlib.Core.Path.{◌≡◌}
 use Rattle.rules.specs.Lists.{all_from}
-use Rattle.rules.proofs.Lists.{all_stopped, all_onward, all_done}
 use Rattle.checking.specs.NodePlaces.{node_right, nodes_right}
 use Rattle.store.specs.Places.{in_use}
 use Rattle.checking.proofs.node_places.nodes_right.Given as goal

@@ -1,7 +1,6 @@
 -- `checking::node_places::rest_free` meets its contract.
 -- Assumes nothing.
 use Rattle.checking.specs.NodePlaces.{rest_free}
-use borrow.Author.Rules.{rules}
 use Rattle.checking.proofs.node_places.rest_free.Goals as goal
 
 pub returns : goal.returns

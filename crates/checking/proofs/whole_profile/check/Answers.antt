@@ -1,16 +1,11 @@
 -- `checking::whole_profile::check` meets its contract: each test takes one part of all that is tested, and all together are `sound`.
 -- Assumes nothing.
-use Prim.Native.Nat.{◌≤◌}
 use mathlib.Core.Path.{◌∙◌}
-use borrow.Author.Rules.{rules}
-use lib.ListN.{length}
-use Rattle.rules.specs.Room.{most_nodes, most_marks}
 use Rattle.rules.proofs.Connectives.{both}
 use Rattle.rules.proofs.Means.{and_both}
 use Rattle.checking.specs.Tested.{tested}
 use Rattle.checking.proofs.TestsInOrder.{passed, decided, left_to_next, within_most}
 use Rattle.checking.proofs.TestedIsSound.{tested_is_sound}
-use Rattle.store.specs.Places.{in_use}
 use Rattle.store.proofs.OnlyAsked.{left_as_it_was}
 use Rattle.checking.proofs.whole_profile.check.Goals as goal
 

@@ -1,12 +1,7 @@
 -- `checking::zeros::zeros_between` meets its contract. The loop's invariant: the test from here equals the test from the start.
 -- Assumes nothing.
-use Prim.Native.Nat.{◌-◌, min}
 use native.Mathlib.Omega.{arith}
-use mathlib.Core.Path.{◌≡◌, refl, sym, ◌∙◌}
-use mathlib.Core.Logic.{⊎_elim}
-use borrow.Author.Rules.{rules}
-use lib.ListN.{length}
-use Rattle.checking.specs.Zeros.{zeros_between}
+use mathlib.Core.Path.{refl, sym, ◌∙◌}
 use Rattle.checking.proofs.FreeWords.{zeros_stopped, zeros_onward, zeros_done}
 use Rattle.checking.proofs.zeros.zeros_between.Goals as goal
 use Rattle.checking.proofs.zeros.zeros_between.Goals.{then-to-words, else-to-words}

@@ -1,14 +1,11 @@
 -- `committing::fence_laying::lay_fences` meets its contract. The loop's invariant: the words have their fields with the fences of the nodes below
 -- this place laid.
 -- Assumes nothing.
-use Prim.Native.Nat.{◌+◌, ◌-◌, ◌≤◌}
+use Prim.Native.Nat.{◌+◌}
 use mathlib.Core.Path.{◌≡◌}
 use native.Mathlib.Omega.{arith}
-use borrow.Author.Rules.{rules}
-use lib.ListN.{length}
 use Rattle.store.specs.Places.{in_use}
-use Rattle.store.specs.HasFields.{HasFields}
-use Rattle.committing.proofs.FenceLaying.{fenced_before, no_place_yet, next_place_lem, all_fenced}
+use Rattle.committing.proofs.FenceLaying.{no_place_yet, next_place_lem, all_fenced}
 use Rattle.committing.proofs.fence_laying.lay_fences.Goals as goal
 
 pub loop-place-init : goal.loop-place-init

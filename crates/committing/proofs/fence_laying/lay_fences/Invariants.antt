@@ -2,13 +2,10 @@
 -- this place laid.
 -- Assumes nothing.
 use Prim.Native.Nat.{◌+◌, ◌-◌, ◌≤◌}
-use mathlib.Core.Path.{◌≡◌}
-use native.Mathlib.Omega.{arith}
-use borrow.Author.Rules.{rules}
 use lib.ListN.{length}
 use Rattle.store.specs.Places.{in_use}
 use Rattle.store.specs.HasFields.{HasFields}
-use Rattle.committing.proofs.FenceLaying.{fenced_before, no_place_yet, next_place_lem, all_fenced}
+use Rattle.committing.proofs.FenceLaying.{fenced_before}
 use Rattle.committing.proofs.fence_laying.lay_fences.Given as goal
 
 abbrev pub invariant-loop-place : goal.invariant-loop-place

@@ -1,13 +1,10 @@
 -- `committing::fence_laying::put_fences` meets its contract. The loop's invariant: the words have their fields with the fences of the slots below
 -- this one laid.
 -- Assumes nothing.
-use Prim.Native.Nat.{◌+◌, ◌-◌, ◌*◌, ◌≤◌}
+use Prim.Native.Nat.{◌+◌, ◌-◌, ◌*◌}
 use native.Mathlib.Omega.{arith}
-use borrow.Author.Rules.{rules}
-use lib.ListN.{length}
-use Rattle.rules.specs.Staircase.{slots_per_node, slot_number}
-use Rattle.store.specs.HasFields.{HasFields}
-use Rattle.committing.proofs.FenceLaying.{fenced_up_to, no_fence_yet, next_fence, place_fenced}
+use Rattle.rules.specs.Staircase.{slot_number}
+use Rattle.committing.proofs.FenceLaying.{no_fence_yet, next_fence, place_fenced}
 use Rattle.committing.proofs.fence_laying.put_fences.Goals as goal
 
 pub loop-slot-init : goal.loop-slot-init

@@ -1,13 +1,11 @@
 -- `committing::fence_laying::put_fences` meets its contract. The loop's invariant: the words have their fields with the fences of the slots below
 -- this one laid.
 -- Assumes nothing.
-use Prim.Native.Nat.{◌+◌, ◌-◌, ◌*◌, ◌≤◌}
-use native.Mathlib.Omega.{arith}
-use borrow.Author.Rules.{rules}
+use Prim.Native.Nat.{◌+◌, ◌-◌, ◌≤◌}
 use lib.ListN.{length}
-use Rattle.rules.specs.Staircase.{slots_per_node, slot_number}
+use Rattle.rules.specs.Staircase.{slots_per_node}
 use Rattle.store.specs.HasFields.{HasFields}
-use Rattle.committing.proofs.FenceLaying.{fenced_up_to, no_fence_yet, next_fence, place_fenced}
+use Rattle.committing.proofs.FenceLaying.{fenced_up_to}
 use Rattle.committing.proofs.fence_laying.put_fences.Given as goal
 
 abbrev pub invariant-loop-slot : goal.invariant-loop-slot

@@ -1,15 +1,11 @@
 -- `committing::link_laying::lay_links_with` meets its contract. The loop's invariant: the first places ahead of the place are known, and the links of
 -- the places past it are laid.
 -- Assumes nothing.
-use Prim.Native.Nat.{◌+◌, ◌≤◌, ◌<◌, ◌^◌}
-use mathlib.Core.Path.{◌≡◌, sym, ◌∙◌, ap}
+use mathlib.Core.Path.{sym, ◌∙◌, ap}
 use native.Mathlib.Omega.{arith}
-use borrow.Author.Rules.{rules}
 use lib.ListN.{length}
-use Rattle.store.specs.Places.{node_field, level_field, in_use}
-use Rattle.store.specs.HasFields.{HasFields}
-use Rattle.linking.proofs.PlacesAhead.{Ahead, none_ahead, ahead_before}
-use Rattle.committing.proofs.LinkLaying.{linked_from_field, no_place_linked, level_kept, one_more_node_linked, header_linked}
+use Rattle.linking.proofs.PlacesAhead.{none_ahead, ahead_before}
+use Rattle.committing.proofs.LinkLaying.{no_place_linked, level_kept, one_more_node_linked, header_linked}
 use Rattle.committing.proofs.link_laying.lay_links_with.Goals as goal
 
 pub loop-place-init : goal.loop-place-init

@@ -2,14 +2,11 @@
 -- the places past it are laid.
 -- Assumes nothing.
 use Prim.Native.Nat.{◌+◌, ◌≤◌, ◌<◌, ◌^◌}
-use mathlib.Core.Path.{◌≡◌, sym, ◌∙◌, ap}
-use native.Mathlib.Omega.{arith}
-use borrow.Author.Rules.{rules}
 use lib.ListN.{length}
-use Rattle.store.specs.Places.{node_field, level_field, in_use}
+use Rattle.store.specs.Places.{in_use}
 use Rattle.store.specs.HasFields.{HasFields}
-use Rattle.linking.proofs.PlacesAhead.{Ahead, none_ahead, ahead_before}
-use Rattle.committing.proofs.LinkLaying.{linked_from_field, no_place_linked, level_kept, one_more_node_linked, header_linked}
+use Rattle.linking.proofs.PlacesAhead.{Ahead}
+use Rattle.committing.proofs.LinkLaying.{linked_from_field}
 use Rattle.committing.proofs.link_laying.lay_links_with.Given as goal
 
 abbrev pub invariant-loop-place : goal.invariant-loop-place

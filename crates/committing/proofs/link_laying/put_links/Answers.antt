@@ -1,12 +1,7 @@
 -- `committing::link_laying::put_links` meets its contract. The loop's invariant: the links of the place are laid in the lanes below this one.
 -- Assumes nothing.
-use Prim.Native.Nat.{◌-◌, ◌≤◌}
 use native.Mathlib.Omega.{arith}
-use borrow.Author.Rules.{rules}
-use lib.ListN.{length}
-use Rattle.rules.specs.NodesLanesEdges.{lanes}
-use Rattle.store.specs.HasFields.{HasFields}
-use Rattle.committing.proofs.LinkLaying.{linked_below_field, no_lane_laid, one_more_lane_laid, all_lanes_laid}
+use Rattle.committing.proofs.LinkLaying.{no_lane_laid, one_more_lane_laid, all_lanes_laid}
 use Rattle.committing.proofs.link_laying.put_links.Goals as goal
 
 pub loop-lane-init : goal.loop-lane-init

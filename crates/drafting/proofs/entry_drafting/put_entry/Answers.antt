@@ -1,6 +1,5 @@
 -- `drafting::entry_drafting::put_entry` meets its contract: with both ends put and the band laid, the draft is that of the profile with the band.
 -- Assumes nothing.
-use borrow.Author.Rules.{rules}
 use Rattle.rules.specs.Changes.{inserted}
 use Rattle.drafting.specs.Drafts.{Drafts}
 use Rattle.drafting.proofs.Drafts.{of_every}

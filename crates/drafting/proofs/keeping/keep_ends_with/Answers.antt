@@ -1,6 +1,5 @@
 -- `drafting::keeping::keep_ends_with` meets its contract.
 -- Assumes nothing.
-use borrow.Author.Rules.{rules}
 use Rattle.drafting.proofs.KeptNodes.{noted_nodes_at_ends}
 use Rattle.drafting.proofs.keeping.keep_ends_with.Goals as goal
 

@@ -1,15 +1,12 @@
 -- `drafting::keeping::keep_noted` meets its contract. The loop's invariant: the nodes drafted so far and those noted from here on are all that are
 -- noted.
 -- Assumes nothing.
-use Prim.Native.Nat.{◌+◌, ◌-◌}
 use mathlib.Core.Path.{◌∙◌, ap}
 use mathlib.Core.Bool.{not}
-use mathlib.Core.Logic.{⊎_elim}
 use native.Mathlib.Omega.{arith}
-use borrow.Author.Rules.{rules}
 use borrow.Author.Tests.{ne_eqb}
 use Rattle.rules.specs.Connectives.{says_yes}
-use Rattle.drafting.proofs.KeepSteps.{KeptSoFar, keeping_begins, fewer_drafted, same_size, place_passed, place_kept, keeping_ends}
+use Rattle.drafting.proofs.KeepSteps.{keeping_begins, fewer_drafted, same_size, place_passed, place_kept, keeping_ends}
 use Rattle.drafting.proofs.keeping.keep_noted.Goals as goal
 use Rattle.drafting.proofs.keeping.keep_noted.Goals.{then-found-place-ne0, else-found-place-ne0}
 

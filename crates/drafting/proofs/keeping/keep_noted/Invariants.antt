@@ -2,14 +2,7 @@
 -- noted.
 -- Assumes nothing.
 use Prim.Native.Nat.{◌+◌, ◌-◌}
-use mathlib.Core.Path.{◌∙◌, ap}
-use mathlib.Core.Bool.{not}
-use mathlib.Core.Logic.{⊎_elim}
-use native.Mathlib.Omega.{arith}
-use borrow.Author.Rules.{rules}
-use borrow.Author.Tests.{ne_eqb}
-use Rattle.rules.specs.Connectives.{says_yes}
-use Rattle.drafting.proofs.KeepSteps.{KeptSoFar, keeping_begins, fewer_drafted, same_size, place_passed, place_kept, keeping_ends}
+use Rattle.drafting.proofs.KeepSteps.{KeptSoFar}
 use Rattle.drafting.proofs.keeping.keep_noted.Given as goal
 
 abbrev pub invariant-loop-place : goal.invariant-loop-place

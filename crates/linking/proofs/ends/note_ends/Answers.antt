@@ -1,12 +1,8 @@
 -- `linking::ends::note_ends` meets its contract. The loop's invariant: what is left to note and to test comes to what all comes to.
 -- Assumes nothing.
-use Prim.Native.Nat.{◌-◌}
-use mathlib.Core.Path.{◌≡◌}
 use native.Mathlib.Omega.{arith}
 use borrow.Author.Rules.{rules}
-use lib.ListN.{length}
-use Rattle.store.specs.Sizes.{band_places}
-use Rattle.linking.proofs.NotingSteps.{Noting, noting_begins, noting_goes_on, noting_ends}
+use Rattle.linking.proofs.NotingSteps.{noting_begins, noting_goes_on, noting_ends}
 use Rattle.linking.proofs.ends.note_ends.Goals as goal
 
 pub loop-number-init : goal.loop-number-init

@@ -2,11 +2,9 @@
 -- Assumes nothing.
 use Prim.Native.Nat.{◌-◌}
 use mathlib.Core.Path.{◌≡◌}
-use native.Mathlib.Omega.{arith}
-use borrow.Author.Rules.{rules}
 use lib.ListN.{length}
 use Rattle.store.specs.Sizes.{band_places}
-use Rattle.linking.proofs.NotingSteps.{Noting, noting_begins, noting_goes_on, noting_ends}
+use Rattle.linking.proofs.NotingSteps.{Noting}
 use Rattle.linking.proofs.ends.note_ends.Given as goal
 
 abbrev pub invariant-loop-number : goal.invariant-loop-number

@@ -1,8 +1,6 @@
 -- `linking::ends::note_ends_of` meets its contract.
 -- Assumes nothing.
 use mathlib.Core.Path.{sym, ◌∙◌}
-use borrow.Author.Rules.{rules}
-use borrow.Author.Tests.{not-true, not-false}
 use Rattle.linking.proofs.NotingSteps.{not_live_noted, live_noted}
 use Rattle.linking.proofs.ends.note_ends_of.Goals as goal
 

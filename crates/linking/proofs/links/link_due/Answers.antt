@@ -1,7 +1,6 @@
 -- `linking::links::link_due` meets its contract.
 -- Assumes nothing.
 use native.Mathlib.Omega.{arith}
-use borrow.Author.Rules.{rules}
 use Rattle.linking.proofs.PlacesAhead.{link_due_lem, no_link_due}
 use Rattle.linking.proofs.links.link_due.Goals as goal
 

@@ -1,6 +1,5 @@
 -- `marking::walking::leads_within` meets its contract.
 -- Assumes nothing.
-use borrow.Author.Rules.{rules}
 use Rattle.marking.proofs.WalkSteps.{tests_link}
 use Rattle.marking.proofs.walking.leads_within.Goals as goal
 

@@ -1,11 +1,8 @@
 -- `marking::walking::stair_at` meets its contract. The loop's invariant: the stair among the lanes that are left is the stair of all.
 -- Assumes nothing.
-use Prim.Native.Nat.{◌≤◌}
 use native.Mathlib.Omega.{arith}
-use mathlib.Core.Path.{◌≡◌, refl, sym, ◌∙◌}
-use borrow.Author.Rules.{rules}
-use Rattle.rules.specs.NodesLanesEdges.{lanes}
-use Rattle.marking.specs.WordWalk.{stair_below, stair_at}
+use mathlib.Core.Path.{refl, sym, ◌∙◌}
+use Rattle.marking.specs.WordWalk.{stair_at}
 use Rattle.marking.proofs.WalkSteps.{stair_here, stair_lower, no_stair}
 use Rattle.marking.proofs.walking.stair_at.Goals as goal
 

@@ -1,12 +1,9 @@
 -- `marking::walking::stair_at` meets its contract. The loop's invariant: the stair among the lanes that are left is the stair of all.
 -- Assumes nothing.
 use Prim.Native.Nat.{◌≤◌}
-use native.Mathlib.Omega.{arith}
-use mathlib.Core.Path.{◌≡◌, refl, sym, ◌∙◌}
-use borrow.Author.Rules.{rules}
+use mathlib.Core.Path.{◌≡◌}
 use Rattle.rules.specs.NodesLanesEdges.{lanes}
 use Rattle.marking.specs.WordWalk.{stair_below, stair_at}
-use Rattle.marking.proofs.WalkSteps.{stair_here, stair_lower, no_stair}
 use Rattle.marking.proofs.walking.stair_at.Given as goal
 
 abbrev pub invariant-loop-below : goal.invariant-loop-below

@@ -1,7 +1,6 @@
 -- `marking::walking::stair_to` meets its contract.
 -- Assumes nothing.
 use mathlib.Core.Path.{◌∙◌}
-use borrow.Author.Rules.{rules}
 use Rattle.marking.proofs.WalkSteps.{stair_leads}
 use Rattle.marking.proofs.walking.stair_to.Goals as goal
 

@@ -1,6 +1,5 @@
 -- `marking::walking::visit` meets its contract.
 -- Assumes nothing.
-use borrow.Author.Rules.{rules}
 use Rattle.marking.proofs.WalkSteps.{stored_visited}
 use Rattle.marking.proofs.walking.visit.Goals as goal
 

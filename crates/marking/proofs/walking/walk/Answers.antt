@@ -2,9 +2,8 @@
 -- the places that it can still come to.
 -- Assumes nothing.
 use native.Mathlib.Omega.{arith}
-use borrow.Author.Rules.{rules}
 use Rattle.hall.specs.SaidBand.{said}
-use Rattle.marking.proofs.WalkedSlots.{Midway, places_left, walked_within, walk_begins, count_within, as_long, all_written, walk_steps, fewer_left}
+use Rattle.marking.proofs.WalkedSlots.{walked_within, walk_begins, count_within, as_long, all_written, walk_steps, fewer_left}
 use Rattle.marking.proofs.walking.walk.Goals as goal
 
 pub loop-here-init : goal.loop-here-init

@@ -1,10 +1,8 @@
 -- `marking::walking::walk` meets its contract. The loop's invariant: the walk is midway, with the slots of the places passed written. The measure:
 -- the places that it can still come to.
 -- Assumes nothing.
-use native.Mathlib.Omega.{arith}
-use borrow.Author.Rules.{rules}
 use Rattle.hall.specs.SaidBand.{said}
-use Rattle.marking.proofs.WalkedSlots.{Midway, places_left, walked_within, walk_begins, count_within, as_long, all_written, walk_steps, fewer_left}
+use Rattle.marking.proofs.WalkedSlots.{Midway, places_left}
 use Rattle.marking.proofs.walking.walk.Given as goal
 
 abbrev pub invariant-loop-here : goal.invariant-loop-here

@@ -1,12 +1,8 @@
 -- `search::descent::search` meets its contract. The invariant of both loops: finishing the search from here comes to what the whole comes to.
 -- Assumes nothing.
-use Prim.Native.Nat.{suc, ◌-◌, ◌≤◌}
+use Prim.Native.Nat.{suc, ◌-◌}
 use native.Mathlib.Omega.{arith}
 use mathlib.Core.Path.{◌≡◌, refl, sym}
-use mathlib.Core.Logic.{◌⊎◌, inl, inr, ⊎_elim}
-use borrow.Author.Rules.{rules}
-use Rattle.search.specs.Descent.{most_looks}
-use Rattle.search.proofs.NextNode.{NextRead}
 use Rattle.search.proofs.Searching.{Searching, begins, alike, steps_on, drops_taking, drops, ends, ends_short}
 use Rattle.search.proofs.descent.search.Goals as goal
 use Rattle.search.proofs.descent.search.Goals.{else-lanes-test, then-lanes-test+then-looks-ge-MOST_LOOKS}

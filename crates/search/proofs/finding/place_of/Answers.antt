@@ -1,11 +1,9 @@
 -- `search::finding::place_of` meets its contract. The loop's invariant: halving on from here comes to the same as halving all places in use.
 -- Assumes nothing.
-use Prim.Native.Nat.{◌+◌, ◌-◌, ◌≤◌, ◌<◌}
 use native.Mathlib.Omega.{arith}
 use mathlib.Core.Path.{sym, ◌∙◌}
 use borrow.Author.Rules.{rules}
-use Rattle.search.specs.PlaceOf.{first_not_below}
-use Rattle.search.proofs.PlaceSteps.{HalvesTo, halves_from_all, upper_half, lower_half, side_by_side, place_there, other_key_there, none_not_below}
+use Rattle.search.proofs.PlaceSteps.{halves_from_all, upper_half, lower_half, side_by_side, place_there, other_key_there, none_not_below}
 use Rattle.search.proofs.finding.place_of.Goals as goal
 
 pub loop-low-init : goal.loop-low-init

@@ -1,7 +1,6 @@
 -- `search::finding::places_in_use` meets its contract.
 -- Assumes nothing.
 use native.Mathlib.Omega.{arith}
-use borrow.Author.Rules.{rules}
 use Rattle.search.specs.PlaceOf.{places_in_use}
 use Rattle.search.proofs.finding.places_in_use.Goals as goal
 

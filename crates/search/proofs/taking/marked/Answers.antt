@@ -3,7 +3,6 @@
 use native.Mathlib.Omega.{arith}
 use mathlib.Core.Path.{ap, ◌∙◌}
 use mathlib.Core.List.{[]}
-use borrow.Author.Rules.{rules}
 use Rattle.search.specs.declared.taking.Taken.{Taken}
 use Rattle.search.proofs.TakenMarks.{taken_after}
 use Rattle.search.proofs.taking.marked.Goals as goal

@@ -1,15 +1,11 @@
 -- `search::taking::take` meets its contract. The loop's invariant: taking the rest from here gives the same as taking all from the start,
 -- and what was taken so far and the marks that are left are no more than there were.
 -- Assumes nothing.
-use Prim.Native.Nat.{◌+◌, ◌-◌, ◌≤◌, min}
 use native.Mathlib.Omega.{arith}
-use mathlib.Core.Path.{◌≡◌, refl, sym, ap, ◌∙◌}
-use mathlib.Core.Logic.{⊎_elim}
+use mathlib.Core.Path.{refl, sym, ap, ◌∙◌}
 use borrow.Author.Rules.{rules}
 use lib.ListN.{length}
 use Rattle.flags.proofs.FlagWords.{flag_words_length}
-use Rattle.store.specs.SaidMarks.{between}
-use Rattle.search.specs.Found.{with_taken}
 use Rattle.search.proofs.TakenMarks.{next_taken, all_taken}
 use Rattle.search.proofs.taking.take.Goals as goal
 use Rattle.search.proofs.taking.take.Goals.{then-to-marks, else-to-marks}

@@ -2,15 +2,10 @@
 -- and what was taken so far and the marks that are left are no more than there were.
 -- Assumes nothing.
 use Prim.Native.Nat.{◌+◌, ◌-◌, ◌≤◌, min}
-use native.Mathlib.Omega.{arith}
-use mathlib.Core.Path.{◌≡◌, refl, sym, ap, ◌∙◌}
-use mathlib.Core.Logic.{⊎_elim}
-use borrow.Author.Rules.{rules}
+use mathlib.Core.Path.{◌≡◌}
 use lib.ListN.{length}
-use Rattle.flags.proofs.FlagWords.{flag_words_length}
 use Rattle.store.specs.SaidMarks.{between}
 use Rattle.search.specs.Found.{with_taken}
-use Rattle.search.proofs.TakenMarks.{next_taken, all_taken}
 use Rattle.search.proofs.taking.take.Given as goal
 
 abbrev pub invariant-loop-at : goal.invariant-loop-at

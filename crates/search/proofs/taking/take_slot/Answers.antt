@@ -4,7 +4,6 @@ use Prim.Native.Nat.{ℕ, suc, ◌+◌}
 use native.Mathlib.Omega.{arith}
 use mathlib.Core.Path.{◌≡◌, ap, ◌∙◌}
 use mathlib.Core.List.{List}
-use borrow.Author.Rules.{rules}
 use Rattle.store.specs.Places.{node_field}
 use Rattle.store.specs.SaidMarks.{between, said_marks}
 use Rattle.search.specs.Found.{with_taken}

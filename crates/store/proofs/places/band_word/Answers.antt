@@ -1,6 +1,5 @@
 -- `store::places::band_word` meets its contract.
 -- Assumes nothing.
-use borrow.Author.Rules.{rules}
 use Rattle.store.specs.Places.{band_field}
 use Rattle.store.proofs.places.band_word.Goals as goal
 

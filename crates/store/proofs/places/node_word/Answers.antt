@@ -1,6 +1,5 @@
 -- `store::places::node_word` meets its contract.
 -- Assumes nothing.
-use borrow.Author.Rules.{rules}
 use Rattle.store.specs.Places.{node_field}
 use Rattle.store.proofs.places.node_word.Goals as goal
 

@@ -1,6 +1,5 @@
 -- `store::places::put_band_word` meets its contract.
 -- Assumes nothing.
-use borrow.Author.Rules.{rules}
 use Rattle.store.specs.Places.{with_band_field}
 use Rattle.store.proofs.places.put_band_word.Goals as goal
 

@@ -1,6 +1,5 @@
 -- `store::places::put_node_word` meets its contract.
 -- Assumes nothing.
-use borrow.Author.Rules.{rules}
 use Rattle.store.specs.Places.{with_node_field}
 use Rattle.store.proofs.places.put_node_word.Goals as goal
 

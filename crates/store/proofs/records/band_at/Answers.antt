@@ -3,7 +3,6 @@
 use Prim.Native.Nat.{ℕ}
 use mathlib.Core.Path.{◌≡◌}
 use mathlib.Core.List.{List}
-use borrow.Author.Rules.{rules}
 use Rattle.rules.specs.Connectives.{says_yes}
 use Rattle.rules.specs.HallLine.{band_of}
 use Rattle.store.specs.Places.{band_field, scope_field, low_field, high_field, low_closed_field, high_closed_field}

@@ -1,6 +1,5 @@
 -- `store::records::drop_band` meets its contract.
 -- Assumes nothing.
-use borrow.Author.Rules.{rules}
 use Rattle.store.specs.WithBand.{with_place_of}
 use Rattle.store.proofs.records.drop_band.Goals as goal
 

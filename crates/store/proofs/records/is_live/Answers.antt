@@ -1,7 +1,6 @@
 -- `store::records::is_live` meets its contract.
 -- Assumes nothing.
 use mathlib.Core.Path.{ap}
-use borrow.Author.Rules.{rules}
 use Rattle.rules.specs.Connectives.{says_yes}
 use Rattle.store.proofs.records.is_live.Goals as goal
 

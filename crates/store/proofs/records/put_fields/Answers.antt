@@ -1,6 +1,5 @@
 -- `store::records::put_fields` meets its contract.
 -- Assumes nothing.
-use borrow.Author.Rules.{rules}
 use Rattle.store.specs.WithBand.{with_fields}
 use Rattle.store.proofs.records.put_fields.Goals as goal
 

@@ -5,7 +5,6 @@ use mathlib.Core.Path.{◌≡◌, refl, ◌∙◌}
 use native.Mathlib.Omega.{arith}
 use lib.Dec.{eqb, leb}
 use lib.ListN.{length}
-use borrow.Author.Rules.{rules}
 use Rattle.rules.specs.Connectives.{◌and◌}
 use Rattle.rules.proofs.Connectives.{both}
 use Rattle.rules.proofs.Means.{and_means, eq_means, le_means, same_means}

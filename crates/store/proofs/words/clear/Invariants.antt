@@ -1,13 +1,9 @@
 -- `store::words::clear` meets its contract. The loop's invariant: the words passed are zero, the others as they were.
 -- Assumes nothing.
-use Prim.Native.Nat.{ℕ, ◌-◌, ◌≤◌}
-use mathlib.Core.Path.{◌≡◌, ap, ◌∙◌}
-use mathlib.Core.List.{List, ◌++◌, append-nil}
-use native.Mathlib.Omega.{arith}
-use borrow.Author.Rules.{rules}
-use borrow.Author.Fill.{fill_more}
-use lib.ListN.{length, set, drop, replicate}
-use lib.Seq.{drop-length}
+use Prim.Native.Nat.{◌-◌, ◌≤◌}
+use mathlib.Core.Path.{◌≡◌}
+use mathlib.Core.List.{◌++◌}
+use lib.ListN.{length, drop, replicate}
 use Rattle.store.proofs.words.clear.Given as goal
 
 abbrev pub invariant-loop-i : goal.invariant-loop-i

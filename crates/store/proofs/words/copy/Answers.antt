@@ -1,11 +1,10 @@
 -- `store::words::copy` meets its contract. The loop's invariant: so many words are copied.
 -- Assumes nothing.
-use Prim.Native.Nat.{◌-◌, ◌≤◌}
-use mathlib.Core.Path.{◌≡◌, ap, ◌∙◌}
+use mathlib.Core.Path.{ap, ◌∙◌}
 use native.Mathlib.Omega.{arith}
 use borrow.Author.Rules.{rules}
-use lib.ListN.{length, get_or, set}
-use Rattle.store.proofs.Copied.{copied_up_to, none_copied, one_more_copied, copied_all, copied_in_room}
+use lib.ListN.{get_or, set}
+use Rattle.store.proofs.Copied.{none_copied, one_more_copied, copied_all, copied_in_room}
 use Rattle.store.proofs.words.copy.Goals as goal
 
 pub loop-at-init : goal.loop-at-init

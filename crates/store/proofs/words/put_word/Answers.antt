@@ -1,7 +1,6 @@
 -- `store::words::put_word` meets its contract.
 -- Assumes nothing.
 use mathlib.Core.Path.{sym}
-use borrow.Author.Rules.{rules}
 use lib.Seq.{set_out}
 use Rattle.store.proofs.words.put_word.Goals as goal
 

@@ -5,7 +5,6 @@ use Prim.Native.Nat.{ℕ}
 use native.Mathlib.Omega.{arith}
 use mathlib.Core.Path.{◌≡◌, sym, ap, ap₂, ◌∙◌}
 use mathlib.Core.Bool.{Bool, false}
-use borrow.Author.Rules.{rules}
 use Rattle.rules.specs.BoxSaysNo.{saying}
 use Rattle.rules.specs.Wheel.{wheel_level, off_wheel, turn_of}
 use Rattle.rules.proofs.Wheel.{OnWheel, off_wheel_means, off_wheel_fails, turn_on_wheel, turn_off_wheel}

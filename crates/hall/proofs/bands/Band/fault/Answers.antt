@@ -2,8 +2,6 @@
 -- Assumes nothing.
 use mathlib.Core.Path.{sym, ◌∙◌}
 use native.Mathlib.Omega.{arith}
-use borrow.Author.Rules.{rules}
-use borrow.Author.Tests.{not-true, not-false}
 use Rattle.rules.proofs.Faults.{by_2, by_3, by_4_low, by_4_high, by_5, by_6, by_none}
 use Rattle.hall.proofs.bands.Band.fault.Goals as goal
 

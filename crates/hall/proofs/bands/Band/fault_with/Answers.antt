@@ -1,7 +1,6 @@
 -- `hall::Band::fault_with` meets its contract: a refusal of the band by itself stays, and without one the levels decide.
 -- Assumes nothing.
 use mathlib.Core.Path.{sym, ap, ◌∙◌}
-use borrow.Author.Rules.{rules}
 use Rattle.rules.proofs.BoxSaysNo.{fault_of_band}
 use Rattle.hall.specs.Says.{answer_says}
 use Rattle.rules.proofs.Connectives.{both}

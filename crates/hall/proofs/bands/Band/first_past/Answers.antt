@@ -1,6 +1,5 @@
 -- `hall::Band::first_past` meets its contract. What it requires keeps the key after the low end in a `u32`.
 -- Assumes nothing.
-use borrow.Author.Rules.{rules}
 use Rattle.rules.specs.HallLine.{first_past}
 use Rattle.hall.proofs.bands.Band.first_past.Goals as goal
 

@@ -1,7 +1,6 @@
 -- `hall::Band::holds_whole_key` meets its contract: it asks `holds` at the key that the rules ask it at.
 -- Assumes nothing.
 use mathlib.Core.Path.{◌∙◌, ap}
-use borrow.Author.Rules.{rules}
 use Rattle.rules.specs.HallLine.{holds, holds_whole_key}
 use Rattle.hall.proofs.bands.Band.holds_whole_key.Goals as goal
 

@@ -1,7 +1,6 @@
 -- `hall::Band::within_scope` meets its contract: its tests are those of the rules, joined alike.
 -- Assumes nothing.
 use mathlib.Core.Path.{refl}
-use borrow.Author.Rules.{rules}
 use Rattle.rules.specs.HallLine.{is_machine, within_scope}
 use Rattle.rules.proofs.Connectives.{both, either}
 use Rattle.hall.proofs.bands.Band.within_scope.Goals as goal

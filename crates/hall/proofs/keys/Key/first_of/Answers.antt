@@ -1,6 +1,5 @@
 -- `hall::Key::first_of` meets its contract.
 -- Assumes nothing.
-use borrow.Author.Rules.{rules}
 use borrow.Author.Tests.{lt-ltb, le-ltb}
 use Rattle.rules.specs.HallLine.{first_key}
 use Rattle.hall.specs.MadeKeys.{first_made}

@@ -1,6 +1,5 @@
 -- `hall::Key::of` meets its contract: at each `return` the tests that led there say whether all three numbers are in their ranges.
 -- Assumes nothing.
-use borrow.Author.Rules.{rules}
 use borrow.Author.Tests.{lt-ltb, le-ltb}
 use Rattle.rules.specs.Connectives.{◌and◌}
 use Rattle.rules.specs.HallLine.{parts_in_range, key_of}
