@@ -1,5 +1,5 @@
 -- "The search": which nodes the paper calls stepped onto, to and from membership and arithmetic; and what the search takes, said directly:
--- in each lane the marks of the edges that pass over the key. That the search takes just these is shown in SearchReaches.
+-- in each lane the marks of the edges that pass over the key. That the search takes just these is shown in SearchTakes.
 -- Assumes nothing.
 use Prim.Native.Nat.{ℕ, zero, suc, ◌<◌}
 use mathlib.Core.List.{List, [], ◌∷◌, ◌++◌}

@@ -5,14 +5,17 @@
 --   Passed            nodes below a key that are passed on the way to it, and those ahead
 --   LocalMarks        a mark by looking at one edge alone: that of the next lane, or the lowest over the node
 --   MarksInUse        marks in use, the bands' own counts together, are all edge and node marks
+--   OverInLane        one band in one lane: marked over a key at most once, where no higher lane has an edge over the key inside the band
 --   OverOnce          one band: marked once over a key that it holds, and never over another
---   SearchReaches     the search drops each lane at its last node below the key, and takes what is marked over the key
+--   SearchReaches     the search drops each lane at its last node below the key, where the edge ahead is the lane's edge over the key
+--   SearchTakes       so the search takes what is marked over the key
 --   LooksAreSteps     the search steps onto as many nodes as the looks count
 --   MarkedOver        what is marked over a key, counted band by band
 --   MetOnce           the search meets each band that holds the key once, and no other; flags, count and marks met
 --   Links             the marked links of a node
 --   MarkedSlots       a band's marked slots are the rule's marks: each once, in order, as many
 --   Stops             the stops and stairs of a band's staircase
+--   HighestStair      the highest stair out of a node is found
 --   Staircase         the walk by the highest edge inside the band visits exactly the marked slots
 --   StandingKept      a standing profile stays standing, and a sound one sound, whatever the call
 --   NodesPerBand      a standing profile has at most a band for each number and two nodes for each band, so its nodes fit the largest room
@@ -29,14 +32,17 @@ pub mod EdgesOut
 pub mod Passed
 pub mod LocalMarks
 pub mod MarksInUse
+pub mod OverInLane
 pub mod OverOnce
 pub mod SearchReaches
+pub mod SearchTakes
 pub mod LooksAreSteps
 pub mod MarkedOver
 pub mod MetOnce
 pub mod Links
 pub mod MarkedSlots
 pub mod Stops
+pub mod HighestStair
 pub mod Staircase
 pub mod StandingKept
 pub mod NodesPerBand

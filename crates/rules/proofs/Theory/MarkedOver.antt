@@ -18,7 +18,8 @@ use Rattle.rules.proofs.NodesLanesEdges.{Asc, Level, NodeAt}
 use Rattle.rules.proofs.Marks.{numbers_holding}
 use Rattle.rules.proofs.Search.{marked_along, edges_over, marked_over}
 use Rattle.rules.proofs.Sums.{count_append, count_sum, count_none, sum_same, sum_plus, count_by_rows_or_columns}
-use Rattle.rules.proofs.Theory.OverOnce.{times_over_in, times_on_node, times_over, over_once}
+use Rattle.rules.proofs.Theory.OverInLane.{times_over_in}
+use Rattle.rules.proofs.Theory.OverOnce.{times_on_node, times_over, over_once}
 use Rattle.rules.proofs.SoundMemory.{Standing}
 
 -- nodes in key order with right levels, one at each end of each band

@@ -25,7 +25,7 @@ use Rattle.rules.proofs.Profile.{NumbersAsc}
 use Rattle.rules.proofs.Theory.OverOnce.{times_over, over_once}
 use Rattle.rules.proofs.Marks.{in_numbers, numbers_holding, length_of_numbers}
 use Rattle.rules.proofs.Flags.{flag_set_where_in, count_without_repeats, flags_by_members}
-use Rattle.rules.proofs.Theory.SearchReaches.{takes_marked_over}
+use Rattle.rules.proofs.Theory.SearchTakes.{takes_marked_over}
 use Rattle.rules.proofs.Sums.{at_most_one, count_all, count_one, in_counted, distinct_by_counts}
 use Rattle.rules.proofs.Theory.MarkedOver.{NodesRight, standing_nodes_right, with_number, count_numbers_lem, count_in_lanes, marked_over_count}
 use Rattle.rules.proofs.SoundMemory.{Standing}

@@ -1,23 +1,23 @@
 -- "The search" as it goes, each lane begun where the lane above was dropped: each lane is dropped at its last node below the key, or at the
--- header where none is below; so what is taken there is what is marked on the edge of that lane over the key.
+-- header where none is below. What is taken there is what is marked on the edge ahead, and that is the lane's edge over the key, or there is none.
 -- Assumes nothing.
 use Prim.Native.Nat.{ℕ, zero, suc, ◌+◌, ◌-◌, ◌≤◌, ◌<◌}
-use mathlib.Core.Path.{◌≡◌, refl, sym, ◌∙◌, ap, ap₂, subst}
+use mathlib.Core.Path.{◌≡◌, refl, sym, ◌∙◌, ap, subst}
 use mathlib.Core.Bool.{Bool, true, false, cond}
 use mathlib.Core.Logic.{◌↔◌, ◌⊎◌, inl, ⊎_elim, ⊎_map}
-use mathlib.Core.List.{List, [], ◌∷◌, ◌++◌, append-nil}
+use mathlib.Core.List.{List, [], ◌∷◌, append-nil}
 use native.Mathlib.Omega.{arith}
 use lib.Dec.{ltb}
 use Rattle.rules.specs.Lists.{add_if, keep, first_of, only_if}
 use Rattle.rules.specs.NodesLanesEdges.{Node, Edge, edge_of, lanes, takes_part, lane_of, edges_in}
 use Rattle.rules.specs.Profile.{Profile}
 use Rattle.rules.specs.Marks.{passes_over, marked_on_edge}
-use Rattle.rules.specs.Search.{Here, header, on, Spot, spot_of, drop_among, drop_in, drop_takes, takes_from, start, taken, steps_of}
+use Rattle.rules.specs.Search.{Here, header, on, Spot, spot_of, drop_among, drop_in, drop_takes, start, steps_of}
 use Rattle.rules.proofs.Means.{denied, lt_means, lt_fails, at_most_or_above}
 use Rattle.rules.proofs.Lists.{In, Each, each_cons, in_kept, keep_none, keep_one, keep_again, keep_above_first, first_least, ascends_keep}
 use Rattle.rules.proofs.NodesLanesEdges.{takes_part_means, Asc, lane_ascends, Joins, edge_rule, edges_ascend}
 use Rattle.rules.proofs.Marks.{PassesOver, passes_over_means}
-use Rattle.rules.proofs.Search.{marked_along, edges_over, marked_over}
+use Rattle.rules.proofs.Search.{marked_along, edges_over}
 use Rattle.rules.proofs.Theory.EdgesNest.{lane_falls, in_own_lane, in_lane_from, joins, none_over_own, one_over}
 
 -- the nodes after the header are all, the nodes after the node at x those of greater key
@@ -159,7 +159,7 @@ module _ (ns : List Node) (a : Asc 0 ns) where
         keep_one (λ f. f.from) (λ f. passes_over f k) 0 (edges_in i ns) (edges_ascend i 0 ns a) e m ((passes_over_means e k).test o)
         (λ f j q. ap (λ g. g.from) (one_over 0 ns a i k f e j m ((passes_over_means f k).fact q) o))
 
-    over_ahead : (h : Here) (ys : List ℕ) → LastBelow k (lane_of i ns) h → lane_of i (nodes_after h ns) ≡ ys → edges_over k i ns ≡ edge_ahead k h ys
+    pub over_ahead : (h : Here) (ys : List ℕ) → LastBelow k (lane_of i ns) h → lane_of i (nodes_after h ns) ≡ ys → edges_over k i ns ≡ edge_ahead k h ys
     over_ahead header ys l q = no_edge_over (λ e m o. omega (arith, o.0, l e.from (joins 0 ns a i e m).from_in))
     over_ahead (on x) [] l q =
         no_edge_over (λ e m o. subst (In e.to) q ((in_lane_after ns i x e.to).1 ((joins 0 ns a i e m).to_in, omega (arith, o.1, l.1))))
@@ -181,11 +181,6 @@ module _ (ns : List Node) (a : Asc 0 ns) where
             let at_k : y ≡ k = ⊎_elim (λ u. absurd (omega (arith, ahead.1))) (λ u. omega (arith, (lt_fails k y).fact p)) (l.2 y ahead.0) in
             no_edge_over (λ e m o. none_over_own 0 ns a i k e m o (subst (λ z. In z (lane_of i ns)) at_k ahead.0))
 
-    -- where the lane is dropped at the last node below k, the edge of the lane over k is the one ahead, if its end is above k
-    pub edges_over_ahead : (at : Spot) → AtLastBelow i k ns at → edges_over k i ns ≡ edge_ahead k at.here (lane_of i at.ahead)
-    edges_over_ahead at r =
-        over_ahead at.here (lane_of i at.ahead) r.last_below (ap (lane_of i) (sym r.ahead_is))
-
   -- a search from the header that has dropped any number of lanes, the last of them lane i, stands at the last node of lane i below k
   pub descended_reaches : (k s n i : ℕ) → AtLastBelow i k ns (descended k (suc n) i (spot_of header ns s))
   descended_reaches k s zero i = drop_reaches i k (spot_of header ns s) tt refl
@@ -193,7 +188,7 @@ module _ (ns : List Node) (a : Asc 0 ns) where
 
 module _ (p : Profile) (k : ℕ) where
   -- what is taken on dropping a lane is what is marked on the edge ahead
-  drop_takes_lem : (i : ℕ) (h : Here) (ys : List ℕ) → drop_takes p i k h ys ≡ marked_along p i (edge_ahead k h ys)
+  pub drop_takes_lem : (i : ℕ) (h : Here) (ys : List ℕ) → drop_takes p i k h ys ≡ marked_along p i (edge_ahead k h ys)
   drop_takes_lem i header ys = refl
   drop_takes_lem i (on x) [] = refl
   drop_takes_lem i (on x) (y ∷ ys) = go (ltb k y)
@@ -219,19 +214,3 @@ module _ (p : Profile) (k : ℕ) where
     -- for each lane, the spot at which the search drops it is the header, if no node of the lane is below k, else on the last that is
     pub reaches_last_below : (i : ℕ) → i < lanes → AtLastBelow i k p.nodes (drop_spot p k i)
     reaches_last_below i l = rw (drop_spot_follows i l) (descended_reaches p.nodes a k 0 (lanes - suc i) i)
-
-    -- what it takes from a lane down, begun where the lane above was dropped, is what is marked over k from that lane down ..
-    pub takes_below : (m : ℕ) → m ≤ lanes → takes_from p k m (drop_spot p k m) ≡ marked_over p k m
-    takes_below zero l = refl
-    takes_below (suc i) l =
-        let at = drop_spot p k i in
-        let over = edges_over_ahead p.nodes a i k at (reaches_last_below i l) in
-        rw (← drop_spot_follows i l)
-        (ap₂ (λ (xs ys : List ℕ). xs ++ ys)
-        (drop_takes_lem i at.here (lane_of i at.ahead) ∙ ap (marked_along p i) (sym over))
-        (takes_below i (omega arith)))
-
-    -- .. so what the search takes is what is marked on the edges over k, and then on a node at k
-    pub takes_marked_over : taken p k ≡ marked_over p k lanes
-    unfolding taken
-    takes_marked_over = takes_below lanes (omega arith)

@@ -1,76 +1,37 @@
 -- The staircase: walking from the low end to the high end, always by the highest edge that stays inside the band, visits exactly the slots
 -- that the rule marks, in their order: the marked nodes and edges, each once. So its count is the band's number of marks.
 -- Assumes nothing.
-use Prim.Native.Nat.{ℕ, zero, suc, ◌≤◌, ◌<◌}
+use Prim.Native.Nat.{ℕ, suc, ◌≤◌, ◌<◌}
 use mathlib.Core.Path.{◌≡◌, refl, sym, ◌∙◌, ap, subst}
 use mathlib.Core.Bool.{Bool, true, false, cond}
-use mathlib.Core.Logic.{◌↔◌, ◌⊎◌, inl, inr, ⊎_elim}
+use mathlib.Core.Logic.{◌↔◌, ◌⊎◌, inl, inr}
 use mathlib.Core.List.{List, [], ◌∷◌, ◌++◌}
 use mathlib.Core.Option.{Option, none, some}
 use native.Mathlib.Omega.{arith}
-use native.Mathlib.Nat.{eq-or-lt_of_le}
-use lib.Dec.{leb, ltb}
+use lib.Dec.{ltb}
 use lib.ListN.{length, drop}
-use borrow.Author.Tests.{ltb-true, ltb-false, leb-true, leb-false}
-use Rattle.rules.specs.Lists.{add_if, first_of, sum_of}
+use borrow.Author.Tests.{ltb-true, ltb-false}
+use Rattle.rules.specs.Lists.{add_if, sum_of}
 use Rattle.rules.specs.HallLine.{Band, holds}
-use Rattle.rules.specs.NodesLanesEdges.{Node, Edge, edge_of, lanes, takes_part, lane_of, edges_in}
+use Rattle.rules.specs.NodesLanesEdges.{Node, Edge, edge_of, lanes, edges_in}
 use Rattle.rules.specs.Profile.{Profile}
 use Rattle.rules.specs.Marks.{edge_marked, node_marked, marks_of, marks_in_use}
-use Rattle.rules.specs.Staircase.{slot_number, marked_links, marked_slots_from, marked_slots, Stair, stair_of, stair_in, or_else, highest_stair, along, walk_from, walk}
-use Rattle.rules.proofs.Means.{Means, denied, never}
-use Rattle.rules.proofs.Lists.{In, Each, some_cons, first_in, Ascends}
-use Rattle.rules.proofs.NodesLanesEdges.{Asc, Level, NodeAt, takes_part_means, in_lane}
+use Rattle.rules.specs.Staircase.{slot_number, marked_links, marked_slots_from, marked_slots, Stair, highest_stair, along, walk_from, walk}
+use Rattle.rules.proofs.Means.{denied}
+use Rattle.rules.proofs.Lists.{In, Each, some_cons, Ascends}
+use Rattle.rules.proofs.NodesLanesEdges.{Asc, Level, NodeAt, in_lane}
 use Rattle.rules.proofs.Theory.EdgesNest.{joins}
-use Rattle.rules.proofs.Theory.Stops.{Stop, Beyond, Bare, IsStair, low_is_stop, stop_mark, beyond_unmarked, outside_bare, at_high, stair_marked, none_beside, passed_bare, stair_to_stop}
+use Rattle.rules.proofs.Theory.Stops.{Stop, Bare, IsStair, low_is_stop, stop_mark, beyond_unmarked, outside_bare, at_high, stair_marked, none_beside, passed_bare, stair_to_stop}
 use Rattle.rules.proofs.SoundMemory.{Standing}
 use Rattle.rules.proofs.Sums.{sum_same}
-use Rattle.rules.proofs.Theory.EdgesOut.{LeadsOut, Ahead, all_ahead, node_ahead, rest_ahead, lane_ahead, next_edge}
+use Rattle.rules.proofs.Theory.EdgesOut.{LeadsOut, Ahead, all_ahead, node_ahead, rest_ahead, lane_ahead}
 use Rattle.rules.proofs.Theory.Links.{link_means, link_bare, no_links, one_link}
+use Rattle.rules.proofs.Theory.HighestStair.{Found, stair_found}
 use Rattle.rules.proofs.Theory.MarkedSlots.{SlotMarked, slot_rule, node_slot, every_slot, slots_ascend, slot_count, out_slot}
 
--- ---- the highest stair
-
-module _ (ns : List Node) (b : Band) (x : ℕ) where
-  -- the lanes from i up to below m lead from x beyond the high end
-  abbrev AllBeyond : ℕ → ℕ → Type 0
-  AllBeyond i m = (k : ℕ) → i ≤ k → k < m → Beyond ns b x k
-
-  -- the answer is the highest of the lowest m lanes that leads from x no further than the high end
-  abbrev Found : ℕ → Option Stair → Type 0
-  Found m none = AllBeyond 0 m
-  Found m (some s) = (s.lane < m) × In (edge_of x s.to) (edges_in s.lane ns) × (s.to ≤ b.high) × AllBeyond (suc s.lane) m
-
-  -- it stays the answer where the next lane leads beyond
-  still_found : (i : ℕ) → Beyond ns b x i → (o : Option Stair) → Found i o → Found (suc i) o
-  still_found i far = still
-    where
-      up : (k : ℕ) → AllBeyond k i → AllBeyond k (suc i)
-      up k h w l u = let z : w ≤ i = omega arith in ⊎_elim (λ p. subst (Beyond ns b x) (sym p) far) (h w l) (eq-or-lt_of_le z)
-
-      still : (o : Option Stair) → Found i o → Found (suc i) o
-      still none g = up 0 g
-      still (some s) g = (omega (arith, g.0), g.1, g.2, up (suc s.lane) g.3)
+-- ---- the highest stair is the one marked link
 
 module _ (b : Band) {ns : List Node} {c : ℕ} {n : Node} {rest : List Node} (f : Ahead ns c (n ∷ rest)) (a : Asc 0 ns) where
-  -- the highest stair is found
-  stair_found : (m : ℕ) → Found ns b n.key m (highest_stair b.high n rest m)
-  stair_found zero = λ k l u. absurd (omega arith)
-  stair_found (suc i) =
-      go (takes_part i n) (lane_of i rest) (takes_part_means i n) (next_edge f a i) (highest_stair b.high n rest i) (stair_found i)
-    where
-      go : (t : Bool) (ys : List ℕ) → Means t (i < n.level)
-          → ((y : ℕ) → ((i < n.level) × (first_of ys ≡ some y)) ↔ In (edge_of n.key y) (edges_in i ns)) → (o : Option Stair)
-          → Found ns b n.key i o → Found ns b n.key (suc i) (or_else (cond t (stair_in b.high i ys) none) o)
-      go false ys m e o g = still_found ns b n.key i (λ y h. never (m.test ((e y).1 h).0)) o g
-      go true [] m e o g = still_found ns b n.key i (λ y h. absurd (first_in y [] ((e y).1 h).1)) o g
-      go true (z ∷ zs) m e o g = reach (leb z b.high) refl
-        where
-          reach : (t : Bool) → leb z b.high ≡ t → Found ns b n.key (suc i) (or_else (cond t (some (stair_of i z)) none) o)
-          reach true q = (omega arith, (e z).0 (m.fact refl, refl), leb-true z b.high q, λ k l u. absurd (omega arith))
-          reach false q =
-              still_found ns b n.key i (λ y h. let p : y ≡ z = cc ((e y).1 h).1 in omega (arith, leb-false z b.high q)) o g
-
   -- where nothing is marked at the node, none of its slots is
   bare_slots : (j : ℕ) → Bare ns b n.key → marked_slots_from ns b j (n ∷ rest) ≡ marked_slots_from ns b (suc j) rest
   bare_slots j h = rw (h.node_bare, no_links ns b j n rest 0 lanes (λ k u v. link_bare b f a k (h.edges_bare k v)))
