@@ -28,7 +28,7 @@ fn name_by(letter: u8) -> [u8; 5] {
 pub(crate) fn slice_of(word: &[u8]) -> Read {
     let letter = words::byte_or_blank(word, 0);
     let name = name_by(letter);
-    if check::same(word, &name) {
+    if word == name.as_slice() {
         numbers::right(letter as u32)
     } else {
         numbers::wrong(Fault::NOT_A_SLICE)

@@ -1,4 +1,5 @@
 // The words of a line: what stands between blanks.
+ghost use Rattle.std.specs.Prelude.{◌≡◌, ◌≢◌, ℕ, ◌<◌, ◌≤◌, length, slice_index};
 
 fn is_blank(byte: u8) -> bool {
     (byte == b' ') | (byte == b'\t')
@@ -36,8 +37,17 @@ pub(crate) fn after(bytes: &[u8], place: usize) -> &[u8] {
 }
 
 // Where a byte first stands; the length where it does not.
-pub(crate) fn place_of(byte: u8, word: &[u8]) -> usize {
-    bytes::scan::find(word, 0, word.len(), byte)
+pub(crate) fn place_of(byte: u8, word: &[u8]) -> usize
+    ensures within { result ≤ length word.now }
+    ensures before { (k : ℕ) → k < result → slice_index word.now k ≢ byte }
+    ensures found { result < length word.now → slice_index word.now result ≡ byte }
+{
+    for (at, here) in word.iter().enumerate() {
+        if *here == byte {
+            return at;
+        }
+    }
+    word.len()
 }
 
 // The word with so many words before it; no bytes where the line has none.

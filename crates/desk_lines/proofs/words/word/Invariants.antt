@@ -1,0 +1,7 @@
+-- `desk_lines::words::word` is safe and ends.
+-- Assumes nothing.
+use Prim.Native.Nat.{◌-◌}
+use Rattle.desk_lines.proofs.words.word.Given as goal
+
+abbrev pub decreases-loop-passed : goal.decreases-loop-passed
+decreases-loop-passed l = l.place - l.passed
