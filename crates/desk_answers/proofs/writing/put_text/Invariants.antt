@@ -1,13 +1,8 @@
--- `desk_answers::writing::put_text` is safe and ends. The loop's invariant: what is lent keeps its length.
+-- `desk_answers::writing::put_text` is safe and ends.
 -- Assumes nothing.
 use Prim.Native.Nat.{◌-◌}
-use mathlib.Core.Path.{◌≡◌}
-use borrow.Author.Rules.{rules}
 use lib.ListN.{length}
 use Rattle.desk_answers.proofs.writing.put_text.Given as goal
-
-abbrev pub invariant-loop-from : goal.invariant-loop-from
-invariant-loop-from l = length l.output ≡ length l.initial.output
 
 abbrev pub decreases-loop-from : goal.decreases-loop-from
 decreases-loop-from l = length l.texts - l.from
