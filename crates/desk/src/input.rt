@@ -3,7 +3,7 @@ use crate::output;
 use crate::state::Desk;
 use crate::stores::{BUFFER, INPUT_START, OUTPUT_START, OWN_BYTES};
 use desk_lines::{Command, LINE_STORE};
-use libc::STDIN_FILENO;
+use std::io::Read;
 
 fn byte_at(bytes: &[u8; OWN_BYTES], at: usize) -> u8 {
     if at < OWN_BYTES { bytes[at] } else { 0 }
@@ -43,22 +43,26 @@ fn take_line(mut desk: Desk, bytes: &mut [u8; OWN_BYTES]) -> Desk {
     desk
 }
 
-// Reads, and tells where what was read ends; where it starts, if there was nothing.
-fn read_input(bytes: &mut [u8]) -> usize {
+// Reads, and tells where what was read ends; where it starts, if there was nothing. A read that fails counts as the input's end.
+fn read_input(input: &mut impl Read, bytes: &mut [u8]) -> usize {
     let start = INPUT_START;
     let end = OUTPUT_START;
     if bytes.len() < end {
         return start;
     }
-    let got = libc::read(STDIN_FILENO, &mut bytes[start..end]);
-    let count = io::count(got, &bytes[start..end]);
+    let count = input.read(&mut bytes[start..end]).unwrap_or(0);
     if count < BUFFER { start + count } else { end }
 }
 
 // Writes out the answers, and reads more. The input's end is the line's too.
-fn read_more(mut desk: Desk, bytes: &mut [u8; OWN_BYTES]) -> Desk {
-    desk.written = output::flush(bytes, desk.written);
-    let end = read_input(bytes);
+fn read_more(
+    rt: &impl Print,
+    input: &mut impl Read,
+    mut desk: Desk,
+    bytes: &mut [u8; OWN_BYTES],
+) -> Desk {
+    desk.written = output::flush(rt, bytes, desk.written);
+    let end = read_input(input, bytes);
     let ended = end == INPUT_START;
     desk.next = INPUT_START;
     desk.end = end;
@@ -68,12 +72,17 @@ fn read_more(mut desk: Desk, bytes: &mut [u8; OWN_BYTES]) -> Desk {
 }
 
 // Moves on to a line's end or, where no byte is left before one, reads more.
-pub(crate) fn move_on(desk: Desk, bytes: &mut [u8; OWN_BYTES]) -> Desk {
+pub(crate) fn move_on(
+    rt: &impl Print,
+    input: &mut impl Read,
+    desk: Desk,
+    bytes: &mut [u8; OWN_BYTES],
+) -> Desk {
     let taken = take_line(desk, bytes);
     if taken.line_ended {
         taken
     } else {
-        read_more(taken, bytes)
+        read_more(rt, input, taken, bytes)
     }
 }
 
