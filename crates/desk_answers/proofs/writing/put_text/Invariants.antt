@@ -1,7 +1,6 @@
 -- `desk_answers::writing::put_text` is safe and ends.
 -- Assumes nothing.
-use Prim.Native.Nat.{◌-◌}
-use lib.ListN.{length}
+use Rattle.std.proofs.Common.{◌-◌, length}
 use Rattle.desk_answers.proofs.writing.put_text.Given as goal
 
 abbrev pub decreases-loop-from : goal.decreases-loop-from
