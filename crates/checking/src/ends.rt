@@ -30,6 +30,8 @@ fn ends_match_with(bands: &[u32], nodes: &[u32], found: &mut [u32]) -> bool
 }
 
 // Whether each end of a live band has a node, and each node is such an end.
+// Its array is large, so it keeps a frame of its own (`check` says why).
+#[inline(never)]
 pub(crate) fn ends_match(bands: &[u32], nodes: &[u32]) -> bool
     requires { in_use nodes.now ≤ most_nodes }
     ensures { result ≡ ends_match bands.now nodes.now }

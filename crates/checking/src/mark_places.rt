@@ -104,6 +104,8 @@ fn marks_right_with(
 }
 
 // Whether fences, marks and the count of marks are those that the bands ask for.
+// Its arrays are large, so it keeps a frame of its own (`check` says why).
+#[inline(never)]
 pub(crate) fn marks_right(bands: &[u32], nodes: &[u32], marks: &[u32]) -> bool
     requires { (in_use nodes.now ≤ most_nodes) × (length marks.now ≤ most_marks) }
     ensures { result ≡ marks_right bands.now nodes.now marks.now }

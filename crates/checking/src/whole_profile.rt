@@ -8,6 +8,7 @@ ghost use Rattle.store.specs.Sound.{sound};
 use crate::{band_places, ends, links, mark_places, node_places};
 
 // Yes exactly when the memory is sound. Memory of wrong sizes is not.
+// No large array stands in its frame: LLVM would set the frame up behind the first test, and lose there a register that it still needs.
 pub fn check(bands: &[u32], nodes: &[u32], marks: &[u32]) -> bool
     ensures { asked result bands.exit.now nodes.exit.now marks.exit.now
         ≡ telling sound (lent bands.entry.now nodes.entry.now marks.entry.now) }
