@@ -21,13 +21,13 @@ unfolding all_noted
 all_found n m is l = all_from_same 1 m (λ i a b. found_alone n i is (omega arith))
 
 -- so the test by what is noted is the one of the ends and the nodes
-pub matched_by_notes : (bands nodes : List ℕ) {old found : List ℕ} {placed all_Noted : Bool} {in_use_lem : ℕ}
+pub matched_by_notes : (bands nodes : List ℕ) {old found : List ℕ} {placed every_noted : Bool} {used : ℕ}
     → old ≡ replicate (length old) 0
     → in_use nodes < length old
-    → in_use_lem ≡ in_use nodes
+    → used ≡ in_use nodes
     → (placed ≡ all says_yes (end_places bands nodes)) × (found ≡ noted old (end_places bands nodes))
-    → all_Noted ≡ all_noted found in_use_lem
-    → placed && all_Noted ≡ ends_match bands nodes
+    → every_noted ≡ all_noted found used
+    → placed && every_noted ≡ ends_match bands nodes
 unfolding ends_match
 matched_by_notes bands nodes {old} z h u p a =
     both p.0 (a ∙ rw (u, p.1, z) (all_found (length old) (in_use nodes) (end_places bands nodes) h))

@@ -63,9 +63,9 @@ of_every P d h q e = subst P (one_drafted d e) h
 -- blank words draft an empty profile
 pub blank_drafts : {bands nodes : List ℕ} → bands ≡ replicate (band_places * band_place_words) 0 → nodes ≡ replicate draft_words 0
     → Drafts empty_profile bands nodes
-blank_drafts {nodes = nodes} no_band no_Node =
+blank_drafts {nodes = nodes} no_band no_node =
     record {
       stands = (standing_means empty_profile).test empty_stands;
       bands_laid = no_band ∙ sym laid_bands_none;
-      nodes_drafted = none_drafted nodes no_Node;
+      nodes_drafted = none_drafted nodes no_node;
     }

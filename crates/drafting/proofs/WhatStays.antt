@@ -41,7 +41,7 @@ left_drafted {p} {nodes = nodes} {draft = draft} l kept =
     record {
       stands = l.stands;
       bands_laid = l.bands_laid;
-      nodes_drafted = subst (λ ns. DraftOf ns draft) (ap (λ bs. nodes_at_ends bs (said_nodes nodes)) said ∙ l.nodes_left_lem) kept;
+      nodes_drafted = subst (λ ns. DraftOf ns draft) (ap (λ bs. nodes_at_ends bs (said_nodes nodes)) said ∙ l.nodes_left) kept;
     }
 
 -- ---- of a sound memory
@@ -60,7 +60,7 @@ module _ (m : Memory) (s : sound m ≡ true) where
       record {
         stands = (standing_means p).test stands;
         bands_laid = laid;
-        nodes_left_lem = left;
+        nodes_left = left;
         ascend = (keys_ascend_means 0 (said_nodes m.nodes)).test in_room.0.keys_ascend_lem;
         few = omega (arith, in_room.1.node_room.1);
         places = omega arith;

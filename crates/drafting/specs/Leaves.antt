@@ -16,7 +16,7 @@ use Rattle.store.specs.LaidBands.{laid_bands}
 pub record Leaves (p : Profile) (bands nodes : List ℕ) : Type 0 where
   pub stands : standing p ≡ true
   pub bands_laid : bands ≡ laid_bands p.bands
-  pub nodes_left_lem : nodes_at_ends p.bands (said_nodes nodes) ≡ p.nodes
+  pub nodes_left : nodes_at_ends p.bands (said_nodes nodes) ≡ p.nodes
   pub ascend : keys_ascend 0 (said_nodes nodes) ≡ true
   pub few : in_use nodes ≤ most_nodes
   pub places : in_use nodes ≤ length nodes / node_place_words - 1

@@ -24,9 +24,9 @@ highest_lane i = omega arith
 
 module _ (nodes : List ℕ) (here : ℕ) where
   -- the code's test of a link is the walk's
-  pub tests_link : (high lane : ℕ) {in_use_lem next next_key : ℕ} → in_use_lem ≡ in_use nodes
+  pub tests_link : (high lane : ℕ) {used next next_key : ℕ} → used ≡ in_use nodes
       → next ≡ node_field nodes here (link_field lane) → next_key ≡ node_field nodes next key_field
-      → (ltb here next && leb next in_use_lem) && leb next_key high ≡ leads_within nodes high here lane
+      → (ltb here next && leb next used) && leb next_key high ≡ leads_within nodes high here lane
   unfolding leads_within
   tests_link high lane {next} u n k = rw (← n) (both (both refl (ap (leb next) u)) (ap (λ x. leb x high) k))
 

@@ -10,13 +10,13 @@ use Rattle.store.specs.SaidProfile.{said_band}
 use Rattle.store.proofs.records.band_at.Goals as goal
 
 -- what is read of the band, word by word
-words_read : (words : List ℕ) (number : ℕ) {scope low high low_closed_lem high_closed_lem : ℕ}
+words_read : (words : List ℕ) (number : ℕ) {scope low high low_is_closed high_is_closed : ℕ}
     → scope ≡ band_field words number scope_field
     → low ≡ band_field words number low_field
     → high ≡ band_field words number high_field
-    → low_closed_lem ≡ band_field words number low_closed_field
-    → high_closed_lem ≡ band_field words number high_closed_field
-    → band_of number scope low high (says_yes low_closed_lem) (says_yes high_closed_lem) ≡ said_band words number
+    → low_is_closed ≡ band_field words number low_closed_field
+    → high_is_closed ≡ band_field words number high_closed_field
+    → band_of number scope low high (says_yes low_is_closed) (says_yes high_is_closed) ≡ said_band words number
 unfolding said_band
 words_read words number s l h lc hc = λ i. band_of number (s i) (l i) (h i) (says_yes (lc i)) (says_yes (hc i))
 
