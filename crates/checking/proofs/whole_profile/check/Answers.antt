@@ -4,7 +4,7 @@ use mathlib.Core.Path.{◌∙◌}
 use Rattle.rules.proofs.Connectives.{both}
 use Rattle.rules.proofs.Means.{and_both}
 use Rattle.checking.specs.Tested.{tested}
-use Rattle.checking.proofs.TestsInOrder.{passed, decided, left_to_next, within_most}
+use Rattle.checking.proofs.TestsInOrder.{passed, decided, left_to_next, ends_and_links, within_most}
 use Rattle.checking.proofs.TestedIsSound.{tested_is_sound}
 use Rattle.store.proofs.OnlyAsked.{left_as_it_was}
 use Rattle.checking.proofs.whole_profile.check.Goals as goal
@@ -36,7 +36,7 @@ returns-then-not-ends_and_links c =
     left_as_it_was
     (left_to_next c.sizes_right.ensures _ c.if-not-sizes_right.false
     (left_to_next (both c.band_places_right.ensures c.node_places_right.ensures) _ c.if-not-places.false
-    (decided (both c.ends_match.ensures c.links_right.ensures) _ c.if-not-ends_and_links.true))
+    (decided (ends_and_links _ _ c.ends_match.ensures c.links_right.ensures) _ c.if-not-ends_and_links.true))
     ∙ tested_is_sound _)
 
 pub marks_right-requires : goal.marks_right-requires
@@ -54,6 +54,6 @@ returns c =
     left_as_it_was
     (left_to_next c.sizes_right.ensures _ c.if-not-sizes_right.false
     (left_to_next (both c.band_places_right.ensures c.node_places_right.ensures) _ c.if-not-places.false
-    (left_to_next (both c.ends_match.ensures c.links_right.ensures) _ c.if-not-ends_and_links.false
+    (left_to_next (ends_and_links _ _ c.ends_match.ensures c.links_right.ensures) _ c.if-not-ends_and_links.false
     c.marks_right.ensures))
     ∙ tested_is_sound _)
