@@ -9,18 +9,6 @@ use Rattle.linking.proofs.links.raise.Goals as goal
 pub loop-lane-init : goal.loop-lane-init
 loop-lane-init c = (search rules, raised_from_first _ _ _)
 
-pub offset_bounds-ahead-lane : goal.offset_bounds-ahead-lane
-offset_bounds-ahead-lane c = record { fits = omega (arith, lane_to_raise c.loop-lane.lane c.args.level c.loop-lane-test.true) }
-
-pub bounds-ahead-lane : goal.bounds-ahead-lane
-bounds-ahead-lane c = omega (arith, lane_to_raise c.loop-lane.lane c.args.level c.loop-lane-test.true)
-
-pub overflow_add-lane : goal.overflow_add-lane
-overflow_add-lane c = record { fits = omega (arith, lane_to_raise c.loop-lane.lane c.args.level c.loop-lane-test.true) }
-
-pub loop-lane-smaller : goal.loop-lane-smaller
-loop-lane-smaller c = omega (arith, lane_to_raise c.loop-lane.lane c.args.level c.loop-lane-test.true)
-
 pub loop-lane-preserved : goal.loop-lane-preserved
 loop-lane-preserved c =
     (search rules, sym (raised_onward _ _ _ _ (lane_to_raise _ _ c.loop-lane-test.true).0 (omega (arith, lane_to_raise c.loop-lane.lane c.args.level c.loop-lane-test.true))) ∙ c.loop-lane.invariant.1)
