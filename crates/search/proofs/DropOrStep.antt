@@ -24,7 +24,8 @@ use Rattle.search.specs.Descent.{next_of, is_below}
 use Rattle.rules.proofs.Theory.Passed.{passed_drop, passed_in, passed_ascends, passed_to}
 use Rattle.store.proofs.NextInLane.{onto, None, Next, none_or_next, next_there}
 use Rattle.store.proofs.LinksLead.{none_passes, next_passes}
-use Rattle.search.proofs.Stands.{Stands, stands_on_node}
+use Rattle.search.proofs.Stands.{Stands}
+use Rattle.search.proofs.StandsOnNode.{stands_on_node}
 
 -- both drop lane i and then stand where they stood
 pub record Drops (p : Profile) (nodes marks : List ℕ) (k i place : ℕ) (at : Spot) : Type 0 where

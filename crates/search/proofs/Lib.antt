@@ -9,7 +9,8 @@
 --   PlaceAmongSaid the place found is that of the node at the key
 --   PlaceOnLaid    .. so it is where the words lay a profile
 -- .. and where they lay a profile so is the search, in the order in which the laws build on each other:
---   Stands         where both searches stand alike: at the header, on a node
+--   Stands         where both searches stand alike: at the header
+--   StandsOnNode   .. and on a node below the key
 --   DropOrStep     from there both drop the lane, or both step on
 --   AfterLaneZero  what both take after lane 0, and how many nodes are behind them then
 --   SearchOnLaid   so both come to the same
@@ -21,6 +22,7 @@ pub mod PlaceSteps
 pub mod PlaceAmongSaid
 pub mod PlaceOnLaid
 pub mod Stands
+pub mod StandsOnNode
 pub mod DropOrStep
 pub mod AfterLaneZero
 pub mod SearchOnLaid

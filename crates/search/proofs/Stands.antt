@@ -1,5 +1,5 @@
 -- The search over the words of a laid profile stands at a place where the paper's search stands at a spot: which nodes are ahead, where the links
--- lead, and what is taken on dropping a lane there. So it is at the header, and on each node that is stepped onto.
+-- lead, and what is taken on dropping a lane there. So it is at the header, and each of these is so on a node that is stepped onto.
 -- Assumes nothing.
 use Prim.Native.Nat.{ℕ, suc, ◌≤◌, ◌<◌}
 use mathlib.Core.Path.{◌≡◌, refl, ◌∙◌}
@@ -12,7 +12,7 @@ use lib.ListN.{drop}
 use Rattle.rules.specs.Lists.{only_if}
 use Rattle.rules.specs.NodesLanesEdges.{Node, lanes, lane_of}
 use Rattle.rules.specs.Profile.{Profile}
-use Rattle.rules.specs.Search.{Spot, spot_of, on, drop_takes, start}
+use Rattle.rules.specs.Search.{Spot, on, drop_takes, start}
 use Rattle.rules.proofs.Lists.{Each, in_at_place, rest_follows}
 use Rattle.rules.proofs.NodesLanesEdges.{Level, takes_part_means}
 use Rattle.rules.proofs.SoundMemory.{Standing}
@@ -57,17 +57,17 @@ module _ {p : Profile} {nodes marks : List ℕ} (laid : Lays p nodes marks) (s :
       }
 
   module _ (j : ℕ) (n : Node) (rest : List Node) (here : drop j p.nodes ≡ n ∷ rest) (l : n.key < k) where
-    passed_here : Passed k (suc j) p.nodes rest
+    pub passed_here : Passed k (suc j) p.nodes rest
     passed_here = passed_to k 0 j p.nodes n rest s.keys_ascend_lem here l
 
-    level_here : Level n.level
+    pub level_here : Level n.level
     level_here = s.levels_right_lem n (in_at_place j p.nodes here)
 
-    link_here : (i : ℕ) → i < n.level → next_of nodes (suc j) i ≡ next_place i (suc (suc j)) rest
+    pub link_here : (i : ℕ) → i < n.level → next_of nodes (suc j) i ≡ next_place i (suc (suc j)) rest
     unfolding next_of
     link_here i h = laid.link j n rest here i (omega (arith, level_here)) ∙ rw ((takes_part_means i n).test h)
 
-    takes_here : (i : ℕ) → i < n.level → taken_on_drop nodes marks k (suc j) i ≡ drop_takes p i k (on n.key) (lane_of i rest)
+    pub takes_here : (i : ℕ) → i < n.level → taken_on_drop nodes marks k (suc j) i ≡ drop_takes p i k (on n.key) (lane_of i rest)
     unfolding taken_on_drop is_above
     takes_here i h =
         rw (link_here i h, laid.slot j n rest here (suc i) (omega (arith, level_here)), link_marks p i n rest h)
@@ -75,17 +75,3 @@ module _ {p : Profile} {nodes marks : List ℕ} (laid : Lays p nodes marks) (s :
         (λ (x : None i rest). rw (none_passes x nodes (suc j) (ltb k), x.lane))
         (λ (x : Next i rest). rw (next_passes laid x (suc j) (rest_follows j p.nodes here) (ltb k), x.lane))
         (none_or_next i rest))
-
-    -- on a node below k
-    pub stands_on_node : (m steps : ℕ) → m ≤ n.level → Each (λ o. o.key < k → o.level ≤ m) rest
-        → Stands p nodes marks k m (suc j) (spot_of (on n.key) rest steps)
-    stands_on_node m steps h low =
-        record {
-          passed = passed_here;
-          low = low;
-          height = n.level;
-          to_do = h;
-          in_lane_zero = level_here.0;
-          link = link_here;
-          takes = takes_here;
-        }
