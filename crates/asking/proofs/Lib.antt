@@ -15,11 +15,13 @@
 -- What these are stated and proved with:
 --   Promises          the promise of each call, by name
 --   CallLines         what a call answers, from plain facts on memory and arguments: a law for each place where its code returns
+--   LaneTest          the code's test of an edge's lane is the rules'
 --   BandOnAny         the band readout is the rules' own on the bands that the words say
 --   StabOnLaid, EdgeOnLaid, NodeOnLaid, RoomOnLaid    the calls are the rules' own where words lay a standing profile
 --   OnSound           .. and so on sound memory, on the profile that the words say
 pub mod Promises
 pub mod CallLines
+pub mod LaneTest
 pub mod BandOnAny
 pub mod Alike
 pub mod Settled

@@ -1,19 +1,12 @@
 -- `asking::edge_readout::edge` meets its contract: what was judged of sizes and key stands; then the place found and its level decide.
 -- Assumes nothing.
-use Prim.Native.Nat.{ℕ, suc, ◌+◌, ◌<◌}
-use mathlib.Core.Path.{◌≡◌, refl, sym, ap, ◌∙◌}
-use mathlib.Core.Bool.{true, ◌&&◌}
+use Prim.Native.Nat.{ℕ, suc, ◌+◌}
+use mathlib.Core.Path.{◌≡◌, sym, ap, ◌∙◌}
 use mathlib.Core.List.{List}
 use mathlib.Core.Option.{Option}
 use native.Mathlib.Omega.{arith}
-use lib.Dec.{ltb}
-use borrow.Author.Tests.{ltb-true}
-use Rattle.rules.specs.Connectives.{◌and◌}
-use Rattle.rules.specs.NodesLanesEdges.{lanes}
 use Rattle.rules.specs.Flags.{flags_of}
 use Rattle.rules.specs.BoxSaysNo.{saying}
-use Rattle.rules.proofs.Connectives.{both}
-use Rattle.rules.proofs.Means.{and_both}
 use Rattle.hall.specs.Says.{answer_says}
 use Rattle.hall.proofs.OneToOne.{no_refusal_says_0}
 use Rattle.store.specs.Places.{node_field, link_field}
@@ -22,15 +15,8 @@ use Rattle.store.proofs.OnlyAsked.{left_as_it_was}
 use Rattle.search.specs.Descent.{next_of}
 use Rattle.asking.specs.EdgeCall.{key_at, edge_at}
 use Rattle.asking.proofs.CallLines.{edge_refused, marks_fit, edge_by_13, edge_by_13_lane, edge_read_lem}
+use Rattle.asking.proofs.LaneTest.{lane_test, lane_below}
 use Rattle.asking.proofs.edge_readout.edge.Goals as goal
-
--- the code's test of the lane is the rules'
-lane_test : (lane level said : ℕ) → level ≡ said → ltb lane lanes && ltb lane level ≡ ltb lane lanes and ltb lane said
-lane_test lane level said e = both refl (ap (ltb lane) e)
-
--- a lane that passes the test is one of the eight
-lane_below : (lane level : ℕ) → ltb lane lanes && ltb lane level ≡ true → lane < lanes
-lane_below lane level passed = ltb-true lane lanes (and_both _ _ (sym (lane_test lane level level refl) ∙ passed)).0
 
 -- what is read of the link, word by word
 words_read : (nodes marks : List ℕ) (place lane link : ℕ) (next : Option ℕ) (flags : List ℕ)
