@@ -23,7 +23,7 @@ use Rattle.emptying.specs.EmptyCall.{empty_in}
 use Rattle.emptying.proofs.EmptyExact.{empty_makes}
 use Rattle.demands.specs.Calls.{refusal_of, after_call, after_calls}
 use Rattle.demands.specs.Lines.{lines_of}
-use Rattle.demands.proofs.EveryCall.{sound_known, asks_or_changes}
+use Rattle.demands.proofs.AsksOrChanges.{sound_known, asks_or_changes}
 use Rattle.demands.proofs.KeepsSound.{keeps_sound, keeps_lengths}
 use Rattle.demands.proofs.AlwaysSound.{always_sound}
 

@@ -19,12 +19,14 @@
 -- In Lives, Found, LevelStays, Alone and Local each law is proved once, of every change (`change-..`); insert and remove are instances.
 -- What these are proved with:
 --   ChangesOnly       which bands a change can make come or go: any test on bands
---   EveryCall         each call is that call by the rules: it asks, or is a change; so what is so of every change, and of memory left as it was, is so of all
+--   AsksOrChanges     each call is that call by the rules: it asks, or is a change
+--   EveryCall         .. so what is so of every change, and of memory left as it was, is so of all
 --   FromEmpty         on memory that soundly says a profile each call answers what the rules answer on it
 --   TwoBands          by the rules alone: two bands of one open stretch go in where there is room for two nodes and two marks, and not in less; two of
 --                     one key where there is room for two marks
 pub mod AsPromised
 pub mod ChangesOnly
+pub mod AsksOrChanges
 pub mod EveryCall
 pub mod FromEmpty
 pub mod TwoBands

@@ -19,7 +19,7 @@ use Rattle.store.specs.Memory.{Memory}
 use Rattle.store.specs.ChangeIn.{change_in}
 use Rattle.demands.specs.Calls.{refusal_of}
 use Rattle.demands.specs.Lines.{known_in, lines_of}
-use Rattle.demands.proofs.EveryCall.{asks_or_changes}
+use Rattle.demands.proofs.AsksOrChanges.{asks_or_changes}
 
 module _ (m : Memory) (c : Call) where
   -- a call answers what its lines give
