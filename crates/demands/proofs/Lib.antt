@@ -16,7 +16,7 @@
 --   MarksAlone        bands are found and read by node and mark words, whatever the list of bands has
 --   AlwaysSound       after any calls memory is sound, stabs are exact and the readouts show exactly what the rule marks
 --   AlwaysRuled       .. and memory is the one memory of the profile that the rules come to by those calls
--- In Lives, Found, LevelStays, Alone and Local each law is proved once, of every change (`change-..`); insert and remove are instances.
+-- In Lives, Found, LevelStays, Alone and Local each law is proved once, of every change (`change_..`); insert and remove are instances.
 -- What these are proved with:
 --   ChangesOnly       which bands a change can make come or go: any test on bands
 --   AsksOrChanges     each call is that call by the rules: it asks, or is a change
