@@ -1,12 +1,10 @@
 -- What each case of an answer says: its number of the paper, and every value beside it. Every promise of an answer, a next node or a made key goes
 -- through these definitions.
 -- Assumes nothing.
-use Rattle.std.specs.Prelude.{ℕ, cond, eqb}
-use Rattle.std.proofs.Math.Option.{Option, none, some}
+use Rattle.std.specs.Prelude.{ℕ, Option, None, Some, Result, Ok, Err, cond, eqb}
+use Rattle.std.proofs.Math.Option.{Option as Maybe, none, some}
 use Rattle.hall.specs.declared.answers.Refusal.{Refusal}
-use Rattle.hall.specs.declared.answers.Answer.{Answer}
-use Rattle.hall.specs.declared.answers.Next.{Next}
-use Rattle.hall.specs.declared.keys.Made.{Made}
+use Rattle.hall.specs.declared.keys.Key.{Key}
 
 -- the number of the refusal's line in the paper's table
 abbrev pub refusal_says : Refusal → ℕ
@@ -25,9 +23,9 @@ refusal_says Refusal.MarksExceed = 12
 refusal_says Refusal.NoNodeOrLane = 13
 
 -- an accepted call answers 0, a refused one its refusal's number
-abbrev pub answer_says : Answer → ℕ
-answer_says Answer.Done = 0
-answer_says (Answer.Refused r) = refusal_says r
+abbrev pub answer_says : Result Unit Refusal → ℕ
+answer_says (Ok done) = 0
+answer_says (Err r) = refusal_says r
 
 -- a key, where there is one: 1 and the key, or 0 and 0
 pub record MaybeKey : Type 0 where
@@ -41,15 +39,10 @@ abbrev pub no_key : MaybeKey
 no_key = record { given = 0; key = 0 }
 
 -- the same as the rules have it: a key, or none
-abbrev pub key_said : MaybeKey → Option ℕ
+abbrev pub key_said : MaybeKey → Maybe ℕ
 key_said m = cond (eqb m.given 0) none (some m.key)
 
--- the next node's key, or none
-abbrev pub next_says : Next → MaybeKey
-next_says Next.None = no_key
-next_says (Next.Key k) = a_key k.0
-
--- the key that was made, or none
-abbrev pub made_says : Made → MaybeKey
-made_says Made.NoSuchKey = no_key
-made_says (Made.At k) = a_key k.0
+-- a key that is told, be it the next node's or one that was made, or none
+abbrev pub key_says : Option Key → MaybeKey
+key_says None = no_key
+key_says (Some k) = a_key k.0

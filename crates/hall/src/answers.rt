@@ -2,10 +2,8 @@
 ghost use Rattle.std.specs.Prelude.{◌≡◌};
 ghost use Rattle.hall.specs.Says.{refusal_says, answer_says};
 
-use crate::keys::Key;
-
 // Why the box says no: a case for each line of the paper's table, in its order.
-#[derive(Clone, Copy)]
+#[derive(Clone, Copy, Debug, PartialEq, Eq)]
 pub enum Refusal {
     MemoryUnfit,
     ScopeAbove,
@@ -22,26 +20,15 @@ pub enum Refusal {
     NoNodeOrLane,
 }
 
-// What a call comes to.
-#[derive(Clone, Copy)]
-pub enum Answer {
-    Done,
-    Refused(Refusal),
-}
+// What a call comes to that tells nothing beside being accepted.
+pub type Answer = Result<(), Refusal>;
 
-// The key of the node that comes next in a lane, where one does.
-#[derive(Clone, Copy)]
-pub enum Next {
-    Key(Key),
-    None,
-}
+// The line's number. Only this and the desk's words (`desk_answers`) tell refusals apart: a new one is added in both, and where its number is stated.
+impl From<Refusal> for u32 {
+    ghost from_gives = { λ refusal number. number ≡ refusal_says refusal };
 
-impl Refusal {
-    // The line's number. Only this and the desk's words (`desk_answers`) tell refusals apart: a new one is added in both, and where its number is stated.
-    pub fn number(self) -> u32
-        ensures { result ≡ refusal_says self }
-    {
-        match self {
+    fn from(refusal: Refusal) -> u32 {
+        match refusal {
             Refusal::MemoryUnfit => 1,
             Refusal::ScopeAbove => 2,
             Refusal::NumberAbove => 3,
@@ -59,14 +46,12 @@ impl Refusal {
     }
 }
 
-impl Answer {
-    // The number that the box gives out: 0 where the call is accepted.
-    pub fn number(self) -> u32
-        ensures { result ≡ answer_says self }
-    {
-        match self {
-            Answer::Done => 0,
-            Answer::Refused(refusal) => refusal.number(),
-        }
+// The number that the box gives out: 0 where the call is accepted.
+pub fn number_of(answer: Answer) -> u32
+    ensures { result ≡ answer_says answer }
+{
+    match answer {
+        Ok(()) => 0,
+        Err(refusal) => u32::from(refusal),
     }
 }

@@ -2,8 +2,7 @@
 // Tests are joined by `&` and `|`, which do not branch: such a function has one answer to prove.
 ghost use Rattle.std.specs.Prelude.{◌≡◌, ◌≤◌};
 ghost use Rattle.rules.specs.HallLine.{highest_key, holds, first_past, holds_whole_key, within_scope};
-ghost use Rattle.rules.specs.NodesLanesEdges.{is_level};
-ghost use Rattle.rules.specs.BoxSaysNo.{band_fault, fault_of};
+ghost use Rattle.rules.specs.BoxSaysNo.{band_fault};
 ghost use Rattle.hall.specs.Says.{answer_says};
 ghost use Rattle.hall.specs.SaidBand.{said};
 
@@ -11,7 +10,7 @@ use crate::answers::{Answer, Refusal};
 use crate::keys::Key;
 
 // A band, as given: any numbers can stand here, and `fault` judges them.
-#[derive(Clone, Copy)]
+#[derive(Clone, Copy, Debug, PartialEq, Eq)]
 pub struct Band {
     pub number: u32,
     pub scope: u32,
@@ -31,8 +30,8 @@ impl Band {
     pub fn holds(self, key: Key) -> bool
         ensures { result ≡ holds (said self) key.0 }
     {
-        let past_low = (self.low.0 < key.0) | ((key.0 == self.low.0) & self.low_closed);
-        let before_high = (key.0 < self.high.0) | ((key.0 == self.high.0) & self.high_closed);
+        let past_low = (self.low < key) | ((key == self.low) & self.low_closed);
+        let before_high = (key < self.high) | ((key == self.high) & self.high_closed);
         past_low & before_high
     }
 
@@ -41,40 +40,24 @@ impl Band {
         ensures { answer_says result ≡ band_fault (said self) }
     {
         if Band::HOUSE < self.scope {
-            return Answer::Refused(Refusal::ScopeAbove);
+            return Err(Refusal::ScopeAbove);
         }
         if Band::HIGHEST_NUMBER < self.number {
-            return Answer::Refused(Refusal::NumberAbove);
+            return Err(Refusal::NumberAbove);
         }
-        if Key::HIGHEST.0 < self.low.0 {
-            return Answer::Refused(Refusal::KeyAbove);
+        if Key::HIGHEST < self.low {
+            return Err(Refusal::KeyAbove);
         }
-        if Key::HIGHEST.0 < self.high.0 {
-            return Answer::Refused(Refusal::KeyAbove);
+        if Key::HIGHEST < self.high {
+            return Err(Refusal::KeyAbove);
         }
         if !self.holds_whole_key() {
-            return Answer::Refused(Refusal::HoldsNoKey);
+            return Err(Refusal::HoldsNoKey);
         }
         if !self.within_scope() {
-            return Answer::Refused(Refusal::EndElsewhere);
+            return Err(Refusal::EndElsewhere);
         }
-        Answer::Done
-    }
-
-    // The first of 2 to 7 that applies to the band and the levels given for its ends.
-    pub fn fault_with(self, low_level: u32, high_level: u32) -> Answer
-        ensures { answer_says result ≡ fault_of (said self) low_level high_level }
-    {
-        match self.fault() {
-            Answer::Refused(refusal) => Answer::Refused(refusal),
-            Answer::Done => {
-                if is_level(low_level) & is_level(high_level) {
-                    Answer::Done
-                } else {
-                    Answer::Refused(Refusal::LevelWrong)
-                }
-            }
-        }
+        Ok(())
     }
 
     // The first whole key past the low end.
@@ -104,12 +87,4 @@ impl Band {
         let both_own = self.low.belongs_to(self.scope) & self.high.belongs_to(self.scope);
         !(self.scope < Band::HOUSE) | both_own
     }
-}
-
-const HIGHEST_LEVEL: u32 = 8;
-
-fn is_level(level: u32) -> bool
-    ensures { result ≡ is_level level }
-{
-    (1 <= level) & (level <= HIGHEST_LEVEL)
 }

@@ -2,25 +2,18 @@
 ghost use Rattle.std.specs.Prelude.{◌≡◌};
 ghost use Rattle.rules.specs.HallLine.{own_key};
 ghost use Rattle.rules.specs.BoxSaysNo.{key_fault};
-ghost use Rattle.hall.specs.Says.{answer_says, made_says};
+ghost use Rattle.hall.specs.Says.{answer_says, key_says};
 ghost use Rattle.hall.specs.MadeKeys.{first_made, key_made};
 
 use crate::answers::{Answer, Refusal};
 
 // A key, as given: any number can stand here, and `fault` judges it.
-#[derive(Clone, Copy)]
+#[derive(Clone, Copy, Debug, PartialEq, Eq, PartialOrd, Ord)]
 pub struct Key(pub u32);
 
 // A reading in counts, as given.
-#[derive(Clone, Copy)]
+#[derive(Clone, Copy, Debug, PartialEq, Eq, PartialOrd, Ord)]
 pub struct Reading(pub u16);
-
-// The key made, or that there is none, where a part is out of its range.
-#[derive(Clone, Copy)]
-pub enum Made {
-    At(Key),
-    NoSuchKey,
-}
 
 impl Key {
     pub const HIGHEST: Key = Key(2097151);
@@ -34,42 +27,42 @@ impl Key {
 
     const SENSORS: u32 = 32;
 
-    // A machine's first key: its number times the keys per machine. There are machines 0 to 63.
-    pub fn first_of(machine: u32) -> Made
-        ensures { made_says result ≡ first_made machine }
+    // A machine's first key: its number times the keys per machine. There are machines 0 to 63, and another has none.
+    pub fn first_of(machine: u32) -> Option<Key>
+        ensures { key_says result ≡ first_made machine }
     {
         if machine < Key::MACHINES {
-            Made::At(Key(machine * Key::PER_MACHINE))
+            Some(Key(machine * Key::PER_MACHINE))
         } else {
-            Made::NoSuchKey
+            None
         }
     }
 
-    // The key of a machine's sensor at a reading, where all three are in their ranges.
-    pub fn of(machine: u32, sensor: u32, reading: Reading) -> Made
-        ensures { made_says result ≡ key_made machine sensor reading.0 }
+    // The key of a machine's sensor at a reading; none where one of the three is out of its range.
+    pub fn of(machine: u32, sensor: u32, reading: Reading) -> Option<Key>
+        ensures { key_says result ≡ key_made machine sensor reading.0 }
     {
         let counts = reading.0 as u32;
         if Key::MACHINES <= machine {
-            return Made::NoSuchKey;
+            return None;
         }
         if Key::SENSORS <= sensor {
-            return Made::NoSuchKey;
+            return None;
         }
         if Key::PER_SENSOR <= counts {
-            return Made::NoSuchKey;
+            return None;
         }
-        Made::At(Key(machine * Key::PER_MACHINE + sensor * Key::PER_SENSOR + counts))
+        Some(Key(machine * Key::PER_MACHINE + sensor * Key::PER_SENSOR + counts))
     }
 
     // Refused by 4 where the key is above the highest.
     pub fn fault(self) -> Answer
         ensures { answer_says result ≡ key_fault self.0 }
     {
-        if Key::HIGHEST.0 < self.0 {
-            Answer::Refused(Refusal::KeyAbove)
+        if Key::HIGHEST < self {
+            Err(Refusal::KeyAbove)
         } else {
-            Answer::Done
+            Ok(())
         }
     }
 

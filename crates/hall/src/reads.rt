@@ -1,11 +1,9 @@
-// What the stab and the readouts tell: whether they are refused, and what is read; zeros throughout beside a refusal.
-use crate::answers::{Answer, Next};
+// What the stab and the readouts tell where they are not refused.
 use crate::keys::Key;
 
 // Flags and count of the marks met, how many those were, and the looks. On sound memory the flags are those of the bands that hold the key.
-#[derive(Clone, Copy)]
+#[derive(Clone, Copy, Debug, PartialEq, Eq)]
 pub struct StabRead {
-    pub answer: Answer,
     pub flags: [u64; 16],
     pub count: u32,
     pub met: u32,
@@ -13,9 +11,8 @@ pub struct StabRead {
 }
 
 // A live band's scope, ends and closed ends.
-#[derive(Clone, Copy)]
+#[derive(Clone, Copy, Debug, PartialEq, Eq)]
 pub struct BandRead {
-    pub answer: Answer,
     pub scope: u32,
     pub low: Key,
     pub high: Key,
@@ -24,25 +21,22 @@ pub struct BandRead {
 }
 
 // The key of the node that comes next in the lane, or none, and the flags marked on the way there.
-#[derive(Clone, Copy)]
+#[derive(Clone, Copy, Debug, PartialEq, Eq)]
 pub struct EdgeRead {
-    pub answer: Answer,
-    pub next: Next,
+    pub next: Option<Key>,
     pub flags: [u64; 16],
 }
 
 // A node's level, and the flags marked there.
-#[derive(Clone, Copy)]
+#[derive(Clone, Copy, Debug, PartialEq, Eq)]
 pub struct NodeRead {
-    pub answer: Answer,
     pub level: u32,
     pub flags: [u64; 16],
 }
 
 // Nodes and marks in use.
-#[derive(Clone, Copy)]
+#[derive(Clone, Copy, Debug, PartialEq, Eq)]
 pub struct RoomRead {
-    pub answer: Answer,
     pub nodes: u32,
     pub marks: u32,
 }
