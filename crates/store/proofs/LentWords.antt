@@ -11,8 +11,9 @@ use denote.RattleType.{RattleType}
 use denote.Bor.{Bor}
 use denote.MutBor.{MutBor}
 use denote.Slice.{ShrSlice}
+use Rattle.std.specs.Prelude.{Result}
 use Rattle.rules.specs.BoxSaysNo.{Change}
-use Rattle.hall.specs.declared.answers.Answer.{Answer}
+use Rattle.hall.specs.declared.answers.Refusal.{Refusal}
 use Rattle.store.specs.Memory.{Memory, lent}
 use Rattle.store.specs.Came.{came, Asked, asked}
 
@@ -40,10 +41,10 @@ abbrev pub memory_to_change : {A : Type 0} → LentToChange A → Memory
 memory_to_change x = lent x.0.now x.1.0.now x.1.1.0.now
 
 -- what comes of a call that changes, and of one that asks: a is answered, or told, and the words of x stand after it
-abbrev pub came_with : {A : Type 0} → Answer → Lent A → Change Memory
+abbrev pub came_with : {A : Type 0} → Result Unit Refusal → Lent A → Change Memory
 came_with a x = came a x.0.now x.1.0.now x.1.1.0.now
 
-abbrev pub came_of_change : {A : Type 0} → Answer → LentToChange A → Change Memory
+abbrev pub came_of_change : {A : Type 0} → Result Unit Refusal → LentToChange A → Change Memory
 came_of_change a x = came a x.0.now x.1.0.now x.1.1.0.now
 
 abbrev pub asked_with : {A B : Type 0} → A → Lent B → Asked A

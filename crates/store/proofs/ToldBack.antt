@@ -3,13 +3,14 @@
 use Prim.Native.Nat.{ℕ}
 use mathlib.Core.Path.{◌≡◌, sym, ◌∙◌, ap}
 use mathlib.Core.List.{List}
+use Rattle.std.specs.Prelude.{Result}
 use Rattle.rules.specs.BoxSaysNo.{Change}
-use Rattle.hall.specs.declared.answers.Answer.{Answer}
+use Rattle.hall.specs.declared.answers.Refusal.{Refusal}
 use Rattle.hall.proofs.OneToOne.{answer_one_to_one}
 use Rattle.store.specs.Memory.{Memory}
 use Rattle.store.specs.Came.{came}
 
-pub change_told_back : {said : Change Memory} (a b : Answer) (bands nodes marks bands' nodes' marks' : List ℕ)
+pub change_told_back : {said : Change Memory} (a b : Result Unit Refusal) (bands nodes marks bands' nodes' marks' : List ℕ)
     → came a bands nodes marks ≡ said → came b bands' nodes' marks' ≡ said
     → (a ≡ b) × ((bands ≡ bands') × (nodes ≡ nodes') × (marks ≡ marks'))
 change_told_back a b bands nodes marks bands' nodes' marks' e f =

@@ -1,13 +1,13 @@
 -- What the outcome of a call that is lent memory says: of one that changes, the number of the paper and the memory that it leaves; of one that only asks,
 -- what it tells and the memory that it leaves. The promise of each goes through these definitions.
 -- Assumes nothing.
-use Rattle.std.specs.Prelude.{ℕ, List}
+use Rattle.std.specs.Prelude.{ℕ, List, Result}
 use Rattle.rules.specs.BoxSaysNo.{Change, leaving}
 use Rattle.hall.specs.Says.{answer_says}
-use Rattle.hall.specs.declared.answers.Answer.{Answer}
+use Rattle.hall.specs.declared.answers.Refusal.{Refusal}
 use Rattle.store.specs.Memory.{Memory, lent}
 
-abbrev pub came : Answer → List ℕ → List ℕ → List ℕ → Change Memory
+abbrev pub came : Result Unit Refusal → List ℕ → List ℕ → List ℕ → Change Memory
 came a bands nodes marks = leaving (answer_says a) (lent bands nodes marks)
 
 -- what comes of a call that only asks: what it tells, and what stands after it

@@ -1,10 +1,10 @@
 // Where each field stands, reading one and storing one. A word past the end of its slice reads as 0, and nothing is stored there.
-ghost use Rattle.std.specs.Prelude.{◌≡◌, ◌<◌, ◌^◌};
+ghost use Rattle.std.specs.Prelude.{◌≡◌, ◌<◌};
 ghost use Rattle.store.specs.Places.{band_field, with_band_field, node_field, with_node_field};
 
 use crate::words;
 
-pub const BAND_PLACES: usize = 1024;
+pub const BAND_PLACES: u32 = 1024;
 
 pub const BAND_PLACE_WORDS: usize = 8;
 
@@ -39,7 +39,7 @@ pub const FENCES: usize = 10;
 pub const SLOTS_PER_NODE: usize = 1 + LANES;
 
 // The header's place, and what stands there beside its links.
-pub const HEADER: usize = 0;
+pub const HEADER: u32 = 0;
 
 pub const NODES_IN_USE: usize = 0;
 
@@ -50,33 +50,33 @@ pub const MARKS_IN_USE: usize = 10;
 pub const LANES: usize = 8;
 
 // A field of a band's place.
-pub fn band_word(bands: &[u32], number: usize, field: usize) -> usize
-    requires { (number < 2 ^ 32) × (field < 8) }
-    ensures { (result ≡ band_field bands.now number field) × (result < 2 ^ 32) }
+pub fn band_word(bands: &[u32], number: u32, field: usize) -> u32
+    requires { field < 8 }
+    ensures { result ≡ band_field bands.now number field }
 {
-    words::word(bands, number * BAND_PLACE_WORDS + field)
+    words::word(bands, number as usize * BAND_PLACE_WORDS + field)
 }
 
 // A field of a band's place is stored.
-pub(crate) fn put_band_word(bands: &mut [u32], number: usize, field: usize, value: usize)
-    requires { (number < 2 ^ 32) × (field < 8) × (value < 2 ^ 32) }
+pub(crate) fn put_band_word(bands: &mut [u32], number: u32, field: usize, value: u32)
+    requires { field < 8 }
     ensures { bands.new ≡ with_band_field bands.old number field value }
 {
-    words::put_word(bands, number * BAND_PLACE_WORDS + field, value);
+    words::put_word(bands, number as usize * BAND_PLACE_WORDS + field, value);
 }
 
 // A field of a node place; place 0 is the header's.
-pub fn node_word(nodes: &[u32], place: usize, field: usize) -> usize
-    requires { (place < 2 ^ 32) × (field < 20) }
-    ensures { (result ≡ node_field nodes.now place field) × (result < 2 ^ 32) }
+pub fn node_word(nodes: &[u32], place: u32, field: usize) -> u32
+    requires { field < 20 }
+    ensures { result ≡ node_field nodes.now place field }
 {
-    words::word(nodes, place * NODE_PLACE_WORDS + field)
+    words::word(nodes, place as usize * NODE_PLACE_WORDS + field)
 }
 
 // A field of a node place is stored.
-pub fn put_node_word(nodes: &mut [u32], place: usize, field: usize, value: usize)
-    requires { (place < 2 ^ 32) × (field < 20) × (value < 2 ^ 32) }
+pub fn put_node_word(nodes: &mut [u32], place: u32, field: usize, value: u32)
+    requires { field < 20 }
     ensures { nodes.new ≡ with_node_field nodes.old place field value }
 {
-    words::put_word(nodes, place * NODE_PLACE_WORDS + field, value);
+    words::put_word(nodes, place as usize * NODE_PLACE_WORDS + field, value);
 }

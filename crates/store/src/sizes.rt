@@ -5,7 +5,7 @@ ghost use Rattle.store.specs.Memory.{lent, lengths_in};
 
 use crate::places::{BAND_PLACE_WORDS, BAND_PLACES, NODE_PLACE_WORDS};
 
-pub const BAND_WORDS: usize = BAND_PLACES * BAND_PLACE_WORDS;
+pub const BAND_WORDS: usize = BAND_PLACES as usize * BAND_PLACE_WORDS;
 
 pub const MOST_NODES: usize = 2048;
 

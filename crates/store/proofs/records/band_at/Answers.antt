@@ -23,8 +23,8 @@ words_read words number s l h lc hc = λ i. band_of number (s i) (l i) (h i) (sa
 pub returns : goal.returns
 returns c =
     words_read _ _
-    c.band_word.ensures.0
-    c.band_word-2.ensures.0
-    c.band_word-3.ensures.0
-    c.band_word-4.ensures.0
-    c.band_word-5.ensures.0
+    c.band_word.ensures
+    c.band_word-2.ensures
+    c.band_word-3.ensures
+    c.band_word-4.ensures
+    c.band_word-5.ensures

@@ -5,4 +5,4 @@ use Rattle.rules.specs.Connectives.{says_yes}
 use Rattle.store.proofs.records.is_live.Goals as goal
 
 pub returns : goal.returns
-returns c = ap says_yes c.band_word.ensures.0
+returns c = ap says_yes c.band_word.ensures

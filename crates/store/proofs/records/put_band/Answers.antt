@@ -5,5 +5,4 @@ use Rattle.store.proofs.records.put_band.Goals as goal
 
 pub returns : goal.returns
 unfolding with_place_of
-returns c =
-    rw (c.word_of.ensures, c.word_of-2.ensures) at c.put_fields.ensures
+returns c = c.put_fields.ensures
