@@ -1,35 +1,41 @@
-// What can be wrong with a line.
+// What can be wrong with a line, and with what it asks of the desk: by cases, and as it is told.
+use std::fmt;
+use std::fmt::Display;
 
-// By the number of its words in `desk_answers`.
-#[derive(Clone, Copy)]
-pub struct Fault(pub u32);
+#[derive(Clone, Copy, Debug, PartialEq, Eq)]
+pub enum Fault {
+    LineTooLong,
+    NoSuchCommand,
+    WordMissing,
+    NotANumber,
+    NumberAbove,
+    NotASlice,
+    NotAKey,
+    NoSuchKey,
+    NotAStretch,
+    TooManyWords,
+    // The desk alone knows of these.
+    NoSuchMemory,
+    NoSuchWord,
+    CardFull,
+}
 
-impl Fault {
-    pub const NONE: Fault = Fault(0);
-
-    pub const LINE_TOO_LONG: Fault = Fault(1);
-
-    pub const NO_SUCH_COMMAND: Fault = Fault(2);
-
-    pub const WORD_MISSING: Fault = Fault(3);
-
-    pub const NOT_A_NUMBER: Fault = Fault(4);
-
-    pub const NUMBER_ABOVE: Fault = Fault(5);
-
-    pub const NOT_A_SLICE: Fault = Fault(6);
-
-    pub const NOT_A_KEY: Fault = Fault(7);
-
-    pub const NO_SUCH_KEY: Fault = Fault(8);
-
-    pub const NOT_A_STRETCH: Fault = Fault(9);
-
-    pub const TOO_MANY_WORDS: Fault = Fault(10);
-
-    pub const NO_SUCH_MEMORY: Fault = Fault(11);
-
-    pub const NO_SUCH_WORD: Fault = Fault(12);
-
-    pub const CARD_FULL: Fault = Fault(13);
+impl Display for Fault {
+    fn fmt<W: fmt::Write>(&self, f: &mut fmt::Formatter<W>) -> fmt::Result {
+        f.write_str(match self {
+            Fault::LineTooLong => "line too long",
+            Fault::NoSuchCommand => "no such command",
+            Fault::WordMissing => "word missing",
+            Fault::NotANumber => "not a number",
+            Fault::NumberAbove => "number above 4294967295",
+            Fault::NotASlice => "not a slice",
+            Fault::NotAKey => "not a key",
+            Fault::NoSuchKey => "no such key",
+            Fault::NotAStretch => "not a stretch",
+            Fault::TooManyWords => "too many words",
+            Fault::NoSuchMemory => "no such memory",
+            Fault::NoSuchWord => "no such word",
+            Fault::CardFull => "card full",
+        })
+    }
 }

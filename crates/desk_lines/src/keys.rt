@@ -1,60 +1,37 @@
 // Keys as they are written: a number, or machine, sensor and reading with colons between.
 use crate::faults::Fault;
-use crate::numbers::Read;
-use crate::{numbers, words};
-use hall::{Key, Made, Reading};
+use crate::parts;
+use crate::words::FromWord;
+use hall::{Key, Reading};
 
-// The highest number that a reading's kind has room for.
-const HIGHEST_WORD: u32 = 65535;
-
-fn made(machine: u32, sensor: u32, reading: Reading) -> Read {
-    match Key::of(machine, sensor, reading) {
-        Made::At(key) => numbers::right(key.0),
-        Made::NoSuchKey => numbers::wrong(Fault::NO_SUCH_KEY),
+impl FromWord for Key {
+    fn from_word(word: &[u8]) -> Result<Key, Fault> {
+        let Some((machine, rest)) = parts::split_once(word, b':') else {
+            return number(word).map(Key);
+        };
+        let (sensor, reading) = parts::split_once(rest, b':').ok_or(Fault::NotAKey)?;
+        of_parts(part(machine)?, part(sensor)?, part(reading)?).ok_or(Fault::NoSuchKey)
     }
+}
+
+// A number that is a key or stands in one: a word of another form is no key.
+fn number(word: &[u8]) -> Result<u32, Fault> {
+    u32::from_word(word).map_err(|fault| match fault {
+        Fault::NotANumber => Fault::NotAKey,
+        other => other,
+    })
 }
 
 // A part too high to be a number is out of its range like any other: it is read as the highest number.
-fn of_parts(machine: &[u8], sensor: &[u8], reading: &[u8]) -> Read {
-    let machine_read = numbers::number_of(machine);
-    let sensor_read = numbers::number_of(sensor);
-    let reading_read = numbers::number_of(reading);
-    let counts = reading_read.number;
-    if !(machine_read.is_number() & sensor_read.is_number() & reading_read.is_number()) {
-        return numbers::wrong(Fault::NOT_A_KEY);
-    }
-    if HIGHEST_WORD < counts {
-        return numbers::wrong(Fault::NO_SUCH_KEY);
-    }
-    made(
-        machine_read.number,
-        sensor_read.number,
-        Reading(counts as u16),
-    )
-}
-
-fn of_number(word: &[u8]) -> Read {
-    let read = numbers::number_of(word);
-    if read.is_number() {
-        read
-    } else {
-        numbers::wrong(Fault::NOT_A_KEY)
+fn part(word: &[u8]) -> Result<u32, Fault> {
+    match number(word) {
+        Err(Fault::NumberAbove) => Ok(u32::MAX),
+        read => read,
     }
 }
 
-pub(crate) fn key_of(word: &[u8]) -> Read {
-    let colon = words::place_of(b':', word);
-    if colon == word.len() {
-        return of_number(word);
-    }
-    let rest = words::after(word, colon);
-    let second_colon = words::place_of(b':', rest);
-    if second_colon == rest.len() {
-        return numbers::wrong(Fault::NOT_A_KEY);
-    }
-    of_parts(
-        words::part(word, 0, colon),
-        words::part(rest, 0, second_colon),
-        words::after(rest, second_colon),
-    )
+// None where a part is out of its range.
+fn of_parts(machine: u32, sensor: u32, reading: u32) -> Option<Key> {
+    let counts = u16::try_from(reading).ok()?;
+    Key::of(machine, sensor, Reading(counts))
 }

@@ -4,15 +4,15 @@
 mod commands;
 mod faults;
 mod keys;
+mod lines;
 mod numbers;
+mod parts;
 mod reading;
-mod said;
 mod slices;
 mod stretches;
-mod table;
 mod words;
 
-pub use commands::Command;
+pub use commands::{Command, NAMES};
 pub use faults::Fault;
-pub use reading::{LINE_STORE, read_line};
+pub use lines::Line;
 pub use slices::Slice;

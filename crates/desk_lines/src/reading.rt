@@ -1,127 +1,117 @@
-// From a line to the command that it says.
+// From the words of a line to the command that they say.
 use crate::commands::Command;
 use crate::faults::Fault;
-use crate::numbers::Read;
-use crate::said::{MOST_WORDS, SAID_COUNT, Said};
-use crate::table::ROW_COUNT;
-use crate::{keys, numbers, slices, stretches, table, words};
+use crate::stretches::Stretch;
+use crate::words::Words;
+use hall::{Band, Entry};
 
-// The longest line, and how many bytes are to be kept of one: the longest line and a carriage return.
-const LONGEST_LINE: usize = 200;
-
-pub const LINE_STORE: usize = LONGEST_LINE + 1;
-
-// The number that a word says, by the letter of what it is.
-fn read_number(letter: u8, word: &[u8]) -> Read {
-    match letter {
-        b'k' => keys::key_of(word),
-        b's' => slices::slice_of(word),
-        _ => numbers::number_of(word),
+// None where there is no word, or the first begins a remark.
+pub(crate) fn read(mut words: Words<'_>) -> Result<Option<Command>, Fault> {
+    let Some(name) = words.next() else {
+        return Ok(None);
+    };
+    if name.starts_with(b"#") {
+        return Ok(None);
+    }
+    let command = named(name, &mut words)?;
+    match words.next() {
+        None => Ok(Some(command)),
+        Some(_) => Err(Fault::TooManyWords),
     }
 }
 
-fn read_word(letter: u8, word: &[u8], place: usize, said: &mut Said) -> Fault {
-    if word.len() == 0 {
-        return Fault::WORD_MISSING;
-    }
-    if letter == b'[' {
-        return stretches::read_stretch(word, said);
-    }
-    let read = read_number(letter, word);
-    if place < MOST_WORDS {
-        said[place] = read.number;
-    }
-    read.fault
+// The command of this name, with the words that it takes.
+fn named(name: &[u8], words: &mut Words<'_>) -> Result<Command, Fault> {
+    Ok(match name {
+        b"empty" => Command::Empty,
+        b"insert" => Command::Insert(entry(words)?),
+        b"remove" => Command::Remove {
+            number: words.read()?,
+            scope: words.read()?,
+        },
+        b"stab" => Command::Stab(words.read()?),
+        b"check" => Command::Check,
+        b"band" => Command::Band {
+            number: words.read()?,
+        },
+        b"edge" => Command::Edge {
+            key: words.read()?,
+            lane: words.read()?,
+        },
+        b"node" => Command::Node(words.read()?),
+        b"room" => Command::Room,
+        b"wheel" => Command::Wheel {
+            place: words.read()?,
+        },
+        b"card" => card(words)?,
+        b"help" => Command::Help,
+        _ => return on_words(name, words),
+    })
 }
 
-// What is wrong where a line has a word more than so many.
-fn words_past(line: &[u8], count: usize) -> Fault {
-    let past = words::word(line, count);
-    if past.len() == 0 {
-        Fault::NONE
-    } else {
-        Fault::TOO_MANY_WORDS
+// A command that lends words, or takes the lent ones as words.
+fn on_words(name: &[u8], words: &mut Words<'_>) -> Result<Command, Fault> {
+    Ok(match name {
+        b"memory" => Command::Memory {
+            nodes: words.read()?,
+            marks: words.read()?,
+        },
+        b"lengths" => Command::Lengths {
+            bands: words.read()?,
+            nodes: words.read()?,
+            marks: words.read()?,
+        },
+        b"fill" => Command::Fill {
+            word: words.read()?,
+        },
+        b"poke" => Command::Poke {
+            slice: words.read()?,
+            index: words.read()?,
+            word: words.read()?,
+        },
+        b"peek" => Command::Peek {
+            slice: words.read()?,
+            index: words.read()?,
+        },
+        b"sum" => Command::Sum,
+        _ => return Err(Fault::NoSuchCommand),
+    })
+}
+
+// A command of the bench card, by its second name.
+fn card(words: &mut Words<'_>) -> Result<Command, Fault> {
+    match words.next() {
+        Some(b"clear") => Ok(Command::CardClear),
+        Some(b"add") => Ok(Command::CardAdd(band(words)?)),
+        Some(b"scan") => Ok(Command::CardScan(words.read()?)),
+        Some(_) => Err(Fault::NoSuchCommand),
+        None => Err(Fault::WordMissing),
     }
 }
 
-// Reads the words behind a command's name, up to the first that is wrong.
-fn read_words(row: u32, behind: &[u8], said: &mut Said) -> Fault {
-    let mut place = 0;
-    while place < MOST_WORDS {
-        let letter = table::letter(row, place as u32);
-        if letter == b' ' {
-            return words_past(behind, place);
-        }
-        let fault = read_word(letter, words::word(behind, place), place, said);
-        if fault.0 != Fault::NONE.0 {
-            return fault;
-        }
-        place += 1;
-    }
-    words_past(behind, MOST_WORDS)
+fn band(words: &mut Words<'_>) -> Result<Band, Fault> {
+    let number = words.read()?;
+    let scope = words.read()?;
+    let Stretch {
+        low,
+        high,
+        low_closed,
+        high_closed,
+    } = words.read()?;
+    Ok(Band {
+        number,
+        scope,
+        low,
+        high,
+        low_closed,
+        high_closed,
+    })
 }
 
-fn read_row(row: u32, behind: &[u8]) -> Command {
-    let mut said = [0; SAID_COUNT];
-    let fault = read_words(row, behind, &mut said);
-    if fault.0 != Fault::NONE.0 {
-        return Command::wrong(fault);
-    }
-    Command::of(
-        table::letter(row, table::KIND),
-        table::letter(row, table::WHICH),
-        said,
-    )
-}
-
-// Reads what stands behind the command's name, or behind both its names.
-fn read_named(row: u32, line: &[u8], second: &[u8]) -> Command {
-    let behind = words::behind_first(line);
-    if !table::has_second(row) {
-        return read_row(row, behind);
-    }
-    if second.len() == 0 {
-        return Command::wrong(Fault::WORD_MISSING);
-    }
-    read_row(row, words::behind_first(behind))
-}
-
-fn read(line: &[u8]) -> Command {
-    let first = words::word(line, 0);
-    let start = words::byte_or_blank(first, 0);
-    if (start == b' ') | (start == b'#') {
-        return Command::nothing();
-    }
-    let second = words::word(line, 1);
-    let row = table::row_meant(first, second);
-    if row == ROW_COUNT {
-        return Command::wrong(Fault::NO_SUCH_COMMAND);
-    }
-    read_named(row, line, second)
-}
-
-// The length of a line without a carriage return at its end.
-fn length_without_return(line: &[u8], length: usize) -> usize {
-    if 0 < length {
-        let last = length - 1;
-        if last < line.len() {
-            if line[last] == b'\r' {
-                return last;
-            }
-        }
-    }
-    length
-}
-
-// The command that the line says which stands first among the bytes and is so long. Of a line longer than what is kept only its length counts: it is too
-// long, carriage return or not.
-pub fn read_line(bytes: &[u8], length: usize) -> Command {
-    if LINE_STORE < length {
-        return Command::wrong(Fault::LINE_TOO_LONG);
-    }
-    let shorn = length_without_return(bytes, length);
-    if LONGEST_LINE < shorn {
-        return Command::wrong(Fault::LINE_TOO_LONG);
-    }
-    read(words::part(bytes, 0, shorn))
+fn entry(words: &mut Words<'_>) -> Result<Entry, Fault> {
+    Ok(Entry {
+        band: band(words)?,
+        low_level: words.read()?,
+        high_level: words.read()?,
+    })
 }

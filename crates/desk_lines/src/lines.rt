@@ -1,0 +1,47 @@
+// The line that is being read, as far as it has come.
+use crate::commands::Command;
+use crate::faults::Fault;
+use crate::reading;
+use crate::words::Words;
+
+const LONGEST_LINE: usize = 200;
+
+// The longest line, and a carriage return.
+const KEPT: usize = LONGEST_LINE + 1;
+
+// The bytes that are kept, and how long the line is. Of a longer line than is kept all that counts is that it is too long.
+#[derive(Clone, Copy)]
+pub struct Line {
+    bytes: [u8; KEPT],
+    length: usize,
+}
+
+impl Line {
+    pub fn new() -> Line {
+        Line {
+            bytes: [0; KEPT],
+            length: 0,
+        }
+    }
+
+    pub fn push(&mut self, byte: u8) {
+        if let Some(place) = self.bytes.get_mut(self.length) {
+            *place = byte;
+        }
+        self.length = self.length.saturating_add(1);
+    }
+
+    pub fn clear(&mut self) {
+        self.length = 0;
+    }
+
+    // What the line asks; none where nothing is to be done, since it has no word or is a remark. One carriage return at its end is not part of it.
+    pub fn command(&self) -> Result<Option<Command>, Fault> {
+        let kept = self.bytes.get(..self.length).ok_or(Fault::LineTooLong)?;
+        let line = kept.strip_suffix(b"\r").unwrap_or(kept);
+        if LONGEST_LINE < line.len() {
+            return Err(Fault::LineTooLong);
+        }
+        reading::read(Words::of(line))
+    }
+}
