@@ -6,6 +6,7 @@ use native.Mathlib.Omega.{arith}
 use mathlib.Core.Path.{◌≡◌}
 use mathlib.Core.Bool.{false}
 use mathlib.Core.List.{List}
+use borrow.Author.Tests.{le-ltb}
 use lib.Bits.{and_mask}
 use lib.ListN.{length, get_or-eq_default}
 use Rattle.flags.specs.FlagWords.{flag_is_set}
@@ -22,4 +23,5 @@ returns-then-number-lt-NUMBERS c = rw (and_mask _ 1)
 
 pub returns-else-number-lt-NUMBERS : goal.returns-else-number-lt-NUMBERS
 returns-else-number-lt-NUMBERS c =
-    no_flag_above c.args.flags.now c.args.number (omega arith) c.if-number-lt-NUMBERS.false
+    let above = c.if-number-lt-NUMBERS.false in
+    rw (le-ltb c.args.number 1024 above) (no_flag_above c.args.flags.now c.args.number (omega arith) above)
