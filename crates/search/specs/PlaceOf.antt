@@ -1,7 +1,7 @@
 -- Where the node of a key stands, found by halving: where halving comes to rest, if that place has the key. Where keys ascend it is the first of
 -- the places in use whose key is not below it.
 -- Assumes nothing.
-use Rattle.std.specs.Prelude.{ℕ, zero, suc, ◌+◌, ◌-◌, ◌/◌, min, Bool, cond, List, leb, ltb, eqb, length}
+use Rattle.std.specs.Prelude.{ℕ, zero, suc, ◌+◌, ◌-◌, ◌/◌, min, Bool, cond, List, leb, ltb, eqb, length, Option, None, Some}
 use Rattle.rules.specs.Connectives.{◌and◌}
 use Rattle.store.specs.Sizes.{node_place_words}
 use Rattle.store.specs.Places.{node_field, key_field, header, in_use}
@@ -36,3 +36,8 @@ first_not_below nodes k = halved nodes k (places_in_use nodes) header (places_in
 unfoldable pub place_of : List ℕ → ℕ → ℕ
 place_of nodes k =
     let i : ℕ = first_not_below nodes k in cond (leb i (places_in_use nodes) and eqb (node_field nodes i key_field) k) i 0
+
+-- the place that the code tells, 0 where it tells none
+abbrev pub place_said : Option ℕ → ℕ
+place_said None = 0
+place_said (Some i) = i

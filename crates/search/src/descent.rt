@@ -13,7 +13,7 @@ use hall::Key;
 pub struct Found {
     pub taken: Taken,
     pub looks: u32,
-    pub place: usize,
+    pub place: u32,
 }
 
 // The most looks that a sound profile can need: 8, and one for each of 2,048 nodes. It ends the search on any memory.
@@ -24,7 +24,7 @@ pub fn search(nodes: &[u32], marks: &[u32], key: Key) -> Found
     requires { length marks.now ≤ most_marks }
     ensures { result ≡ found_of (search_of nodes.now marks.now key.0) }
 {
-    let k = key.0 as usize;
+    let k = key.0;
     let mut taken = taking::nothing();
     let mut looks: u32 = 0;
     let mut place = store::HEADER;
@@ -64,11 +64,11 @@ pub fn search(nodes: &[u32], marks: &[u32], key: Key) -> Found
 }
 
 // After lane 0: the marks of the next node itself, if it stands at the key.
-fn take_at_end(nodes: &[u32], marks: &[u32], key: Key, place: usize, taken: Taken) -> Taken
-    requires { (place < 2 ^ 32) × (taken.met + length marks.now < 2 ^ 32) }
+fn take_at_end(nodes: &[u32], marks: &[u32], key: Key, place: u32, taken: Taken) -> Taken
+    requires { taken.met + length marks.now < 2 ^ 32 }
     ensures { result ≡ with_taken taken (taken_at_end nodes.now marks.now key.0 place) }
 {
-    let k = key.0 as usize;
+    let k = key.0;
     let next = store::node_word(nodes, place, store::LINKS);
     let next_key = store::node_word(nodes, next, store::KEY);
     if (next != 0) & (next_key == k) {

@@ -1,43 +1,42 @@
 // Finding a node's place by its key.
-ghost use Rattle.std.specs.Prelude.{◌≡◌, ◌<◌, ◌^◌};
-ghost use Rattle.search.specs.PlaceOf.{places_in_use, place_of};
+ghost use Rattle.std.specs.Prelude.{◌≡◌, ◌<◌, IfSome};
+ghost use Rattle.search.specs.PlaceOf.{places_in_use, place_of, place_said};
 
 use hall::Key;
 
-// The place of the node at the key; 0 where it is not found. Nodes stand in key order, so the places in use are halved again and again.
-pub fn place_of(nodes: &[u32], key: Key) -> usize
-    ensures { (result ≡ place_of nodes.now key.0) × (result < 2 ^ 32) }
+// The place of the node at the key, where it is found. Nodes stand in key order, so the places in use are halved again and again. By hand, since what is
+// found is settled on any memory, and a library's search speaks of ordered slices alone.
+pub fn place_of(nodes: &[u32], key: Key) -> Option<u32>
+    ensures place { place_said result ≡ place_of nodes.now key.0 }
+    ensures node { IfSome result (λ place. 0 < place) }
 {
-    let k = key.0 as usize;
     let in_use = places_in_use(nodes);
-    let mut low = store::HEADER;
-    let mut high = in_use + 1;
+    let mut low = store::HEADER as usize;
+    let mut high = in_use as usize + 1;
     while low + 1 < high {
         let mid = (low + high) / 2;
-        if store::node_word(nodes, mid, store::KEY) < k {
+        if store::node_word(nodes, mid as u32, store::KEY) < key.0 {
             low = mid;
         } else {
             high = mid;
         }
     }
-    if in_use < high {
-        return 0;
+    if (in_use as usize) < high {
+        return None;
     }
-    if store::node_word(nodes, high, store::KEY) == k {
-        high
+    let place = high as u32;
+    if store::node_word(nodes, place, store::KEY) == key.0 {
+        Some(place)
     } else {
-        0
+        None
     }
 }
 
 // How many places are in use, by the header's count and as far as there are words.
-fn places_in_use(nodes: &[u32]) -> usize
-    ensures { (result ≡ places_in_use nodes.now) × (result < 2 ^ 32) }
+fn places_in_use(nodes: &[u32]) -> u32
+    ensures { result ≡ places_in_use nodes.now }
 {
     let counted = store::node_word(nodes, store::HEADER, store::NODES_IN_USE);
     let places = nodes.len() / store::NODE_PLACE_WORDS;
-    if counted < places {
-        return counted;
-    }
-    if 0 < places { places - 1 } else { 0 }
+    (counted as usize).min(places.saturating_sub(1)) as u32
 }

@@ -31,21 +31,21 @@ fn take(marks: &[u32], from: usize, to: usize, taken: Taken) -> Taken
 pub(crate) fn take_slot(
     nodes: &[u32],
     marks: &[u32],
-    place: usize,
+    place: u32,
     slot: usize,
     taken: Taken,
 ) -> Taken
-    requires { (place < 2 ^ 32) × (slot ≤ lanes) × (taken.met + length marks.now < 2 ^ 32) }
+    requires { (slot ≤ lanes) × (taken.met + length marks.now < 2 ^ 32) }
     ensures { result ≡ with_taken taken (said_marks nodes.now marks.now place slot) }
 {
     let from = store::node_word(nodes, place, store::FENCES + slot);
     let to = store::node_word(nodes, place, store::FENCES + slot + 1);
-    take(marks, from, to, taken)
+    take(marks, from as usize, to as usize, taken)
 }
 
 // What is marked in a slot.
-pub fn marked(nodes: &[u32], marks: &[u32], place: usize, slot: usize) -> Taken
-    requires { (place < 2 ^ 32) × (slot ≤ lanes) × (length marks.now ≤ most_marks) }
+pub fn marked(nodes: &[u32], marks: &[u32], place: u32, slot: usize) -> Taken
+    requires { (slot ≤ lanes) × (length marks.now ≤ most_marks) }
     ensures { result ≡ taken_of (said_marks nodes.now marks.now place slot) }
 {
     take_slot(nodes, marks, place, slot, nothing())

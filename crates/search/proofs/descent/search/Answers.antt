@@ -18,8 +18,8 @@ loop-looks-preserved c =
     steps_on _ _ _
     c.loop-looks.invariant
     (omega arith)
-    (record { link = c.node_word-next.ensures.0; key = c.node_word-next_key.ensures.0 })
-    c.node_word-next.ensures.1
+    (record { link = c.node_word-next.ensures; key = c.node_word-next_key.ensures })
+    c.node_word-next.type_inv
     c.if-next-next_key.true
 
 pub lanes-preserved-then-next-k : goal.lanes-preserved-then-next-k
@@ -27,7 +27,7 @@ lanes-preserved-then-next-k c =
     drops_taking _ _ _
     c.loop-looks.invariant
     (omega arith)
-    (record { link = c.node_word-next.ensures.0; key = c.node_word-next_key.ensures.0 })
+    (record { link = c.node_word-next.ensures; key = c.node_word-next_key.ensures })
     (omega arith)
     c.if-next-next_key.false
     c.if-next-k.true
@@ -38,7 +38,7 @@ lanes-preserved c =
     drops _ _ _
     c.loop-looks.invariant
     (omega arith)
-    (record { link = c.node_word-next.ensures.0; key = c.node_word-next_key.ensures.0 })
+    (record { link = c.node_word-next.ensures; key = c.node_word-next_key.ensures })
     (omega arith)
     c.if-next-next_key.false
     c.if-next-k.false
@@ -51,7 +51,7 @@ take_at_end-more-requires c =
       | else-lanes-test w ↦ alike _ _ _ c.lanes.invariant w.taken-is w.looks-is w.place-is (sym c.if-lanes-eq0.true)
       | then-lanes-test+then-looks-ge-MOST_LOOKS w ↦ absurd (omega arith)
     ] in
-    (omega arith, omega arith)
+    omega arith
 
 pub returns-then-lanes-eq0 : goal.returns-then-lanes-eq0
 returns-then-lanes-eq0 c =

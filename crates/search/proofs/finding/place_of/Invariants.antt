@@ -6,7 +6,7 @@ use Rattle.search.proofs.PlaceSteps.{HalvesTo}
 use Rattle.search.proofs.finding.place_of.Given as goal
 
 abbrev pub invariant-loop-low : goal.invariant-loop-low
-invariant-loop-low l = (l.low < l.high) × (l.high ≤ l.in_use + 1) × HalvesTo l.nodes l.k l.low l.high (first_not_below l.nodes l.k)
+invariant-loop-low l = (l.low < l.high) × (l.high ≤ l.in_use + 1) × HalvesTo l.nodes l.key.0 l.low l.high (first_not_below l.nodes l.key.0)
 
 abbrev pub decreases-loop-low : goal.decreases-loop-low
 decreases-loop-low l = l.high - l.low

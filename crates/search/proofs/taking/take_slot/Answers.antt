@@ -18,4 +18,4 @@ said_between nodes marks place slot from to e f =
 pub returns : goal.returns
 returns c =
     c.take.ensures
-    ∙ ap (with_taken _) (said_between _ _ _ _ _ _ c.node_word-from.ensures.0 c.node_word-to.ensures.0)
+    ∙ ap (with_taken _) (said_between _ _ _ _ _ _ c.node_word-from.ensures c.node_word-to.ensures)
