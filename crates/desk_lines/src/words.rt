@@ -1,4 +1,7 @@
 // The words of a line: what stands between blanks.
+ghost use Rattle.std.specs.Prelude.{◌≡◌, ◌==◌, ◌||◌, length};
+ghost use Rattle.std.specs.Iterator.{at_most};
+
 use crate::faults::Fault;
 
 // What a word can say.
@@ -12,7 +15,9 @@ pub(crate) struct Words<'a> {
     rest: &'a [u8],
 }
 
-fn is_blank(byte: &u8) -> bool {
+fn is_blank(byte: &u8) -> bool
+    ensures { result ≡ (byte.now == 32) || (byte.now == 9) }
+{
     matches!(*byte, b' ' | b'\t')
 }
 
@@ -30,6 +35,9 @@ impl<'a> Words<'a> {
 
 impl<'a> Iterator for Words<'a> {
     type Item = &'a [u8];
+
+    // Each word takes a byte at least.
+    ghost remaining = { λ words. at_most (length words.rest.now) };
 
     fn next(&mut self) -> Option<&'a [u8]> {
         let start = self.rest.iter().position(|byte| !is_blank(byte))?;
