@@ -1,11 +1,9 @@
 -- The memory of the empty profile in lent memory of right sizes: three slices of zeros as long as they were, but for the number of lanes.
 -- Assumes nothing.
-use Prim.Native.Nat.{ℕ, ◌<◌}
 use mathlib.Core.Path.{◌≡◌, sym, ap, ◌∙◌}
 use mathlib.Core.Bool.{true}
-use mathlib.Core.List.{List}
 use native.Mathlib.Omega.{arith}
-use lib.ListN.{length, set, replicate, length-replicate}
+use lib.ListN.{length, set, replicate}
 use Rattle.rules.specs.NodesLanesEdges.{lanes}
 use Rattle.rules.specs.Profile.{empty_profile}
 use Rattle.store.specs.Sizes.{sizes_right}
@@ -29,10 +27,3 @@ empty_memory m right =
     let nodes = ap (λ l. laid_nodes l.nodes empty_profile) same ∙ laid_nodes_none (length m.nodes) (omega arith) in
     let marks = ap (λ l. laid_marks l.marks empty_profile) same ∙ laid_marks_none (length m.marks) in
     λ i. lent (bands i) (nodes i) (marks i)
-
--- the number of lanes has its place among the cleared node words
-pub lane_count_within : (m : Memory) → sizes_right (lengths_in m) ≡ true
-    → (cleared : List ℕ) → cleared ≡ replicate (length m.nodes) 0 → 1 < length cleared
-lane_count_within m right cleared zeros =
-    let sizes = (sizes_in_numbers (length m.bands) (length m.nodes) (length m.marks)).fact right in
-    rw (zeros, length-replicate) (omega arith)

@@ -4,10 +4,11 @@
 use Prim.{Unit}
 use contract.Lifetimes.{Lfts}
 use mathlib.Core.Path.{◌≡◌}
-use Rattle.hall.specs.declared.answers.Answer.{Answer}
+use Rattle.std.specs.Prelude.{Result}
+use Rattle.hall.specs.declared.answers.Refusal.{Refusal}
 use Rattle.store.proofs.LentWords.{LentToChange, SameWordsLeft}
 use Rattle.store.proofs.ToldBack.{change_told_back}
 use Rattle.emptying.proofs.empty.Reads.{Post as promise}
 
-pub empty_settled : (κs : Lfts 3) (given x y : LentToChange (Unit {0})) (a b : Answer) → promise κs given a x → promise κs given b y → (a ≡ b) × SameWordsLeft x y
+pub empty_settled : (κs : Lfts 3) (given x y : LentToChange (Unit {0})) (a b : Result Unit Refusal) → promise κs given a x → promise κs given b y → (a ≡ b) × SameWordsLeft x y
 empty_settled κs given x y a b p q = change_told_back a b _ _ _ _ _ _ p q

@@ -14,11 +14,11 @@ pub fn empty(bands: &mut [u32], nodes: &mut [u32], marks: &mut [u32]) -> Answer
         ≡ empty_in (lent bands.old nodes.old marks.old) }
 {
     if !store::sizes_right(bands, nodes, marks) {
-        return Answer::Refused(Refusal::MemoryUnfit);
+        return Err(Refusal::MemoryUnfit);
     }
     store::clear(bands);
     store::clear(nodes);
     store::clear(marks);
-    nodes[store::LANE_COUNT] = store::LANES as u32;
-    Answer::Done
+    store::put_node_word(nodes, store::HEADER, store::LANE_COUNT, store::LANES as u32);
+    Ok(())
 }
