@@ -9,7 +9,7 @@ const LONGEST_LINE: usize = 200;
 // The longest line, and a carriage return.
 const KEPT: usize = LONGEST_LINE + 1;
 
-// The bytes that are kept, and how long the line is. Of a longer line than is kept all that counts is that it is too long.
+// The bytes that are kept, in an array since the desk has no heap, and how long the line is. Where that is more than is kept, it alone counts.
 #[derive(Clone, Copy)]
 pub struct Line {
     bytes: [u8; KEPT],
