@@ -1,37 +1,20 @@
--- The first places ahead of a place, from the last node back to the header: once a node's place is raised, lane by lane, they are those of the place
--- before it; and the link due by them.
+-- The first places ahead of a place, from the last node back to the header: once a node's place is raised they are those of the place before it; and
+-- raising fills the lanes that the node has.
 -- Assumes nothing.
-use Prim.Native.Nat.{ℕ, zero, suc, ◌+◌, ◌-◌, ◌≤◌, ◌<◌}
-use mathlib.Core.Path.{◌≡◌, refl, sym, ◌∙◌, ap}
-use mathlib.Core.Bool.{true, false, cond, ◌&&◌}
-use mathlib.Core.Logic.{◌⊎◌, inl, inr}
-use mathlib.Core.List.{List, [], ◌∷◌, ◌++◌, append-nil}
-use native.Mathlib.Numerals.{add-one}
+use Prim.Native.Nat.{ℕ, zero, suc, ◌+◌, ◌-◌, ◌≤◌, ◌<◌, min}
+use mathlib.Core.Path.{◌≡◌, refl, ◌∙◌, ap}
+use mathlib.Core.Bool.{cond}
+use mathlib.Core.List.{List, [], ◌∷◌, ◌++◌}
 use native.Mathlib.Omega.{arith}
 use borrow.Author.Tests.{lt-ltb, le-ltb}
 use lib.Dec.{ltb}
-use lib.ListN.{length, get_or, set, take, drop, replicate, length-replicate, get_or-replicate, take-append-drop, drop_of_length-le}
-use lib.Seq.{take-suc-set, drop-set-lt, drop-cons, append_snoc, take_all}
-use Rattle.rules.specs.Connectives.{◌and◌}
+use lib.ListN.{length, length-take, get_or, take, drop, replicate, length-replicate, get_or-replicate}
 use Rattle.rules.specs.NodesLanesEdges.{lanes}
-use Rattle.rules.proofs.Connectives.{both}
-use Rattle.rules.proofs.Means.{and_means, and_fails, lt_means, lt_fails}
 use Rattle.store.specs.Places.{node_field, level_field, in_use}
-use Rattle.linking.specs.LinksDue.{next_from, link_due, raised_from, raised}
+use Rattle.linking.specs.LinksDue.{next_from, raised_from, raised}
 use Rattle.linking.proofs.NextPlaces.{next_here_or_on, no_next_past}
 
 -- ---- a place raised
-
--- the code's test of a lane to raise in
-module _ (lane level : ℕ) where
-  one_test : ltb lane level && ltb lane lanes ≡ ltb lane level and ltb lane lanes
-  one_test = both refl refl
-
-  pub lane_to_raise : ltb lane level && ltb lane lanes ≡ true → (lane < level) × (lane < lanes)
-  lane_to_raise e = (and_means (lt_means lane level) (lt_means lane lanes)).fact (sym one_test ∙ e)
-
-  pub no_lane_to_raise : ltb lane level && ltb lane lanes ≡ false → (level ≤ lane) ⊎ (lanes ≤ lane)
-  no_lane_to_raise e = (and_fails (lt_fails lane level) (lt_fails lane lanes)).fact (sym one_test ∙ e)
 
 module _ (place level : ℕ) where
   raised_length : (i : ℕ) (ahead : List ℕ) → length (raised_from place level i ahead) ≡ length ahead
@@ -45,47 +28,19 @@ module _ (place level : ℕ) where
   raised_at i (suc lane) (first ∷ others) h =
       let moved : i + suc lane ≡ suc i + lane = omega arith in rw moved (raised_at (suc i) lane others (omega arith))
 
-  -- past the lanes that the node has nothing changes
-  raised_past : (i : ℕ) (ahead : List ℕ) → level ≤ i → raised_from place level i ahead ≡ ahead
-  raised_past i [] h = refl
-  raised_past i (first ∷ others) h = rw (le-ltb i level h) (ap (λ xs. first ∷ xs) (raised_past (suc i) others (omega arith)))
+  -- it fills the lanes that the node has, and past them nothing changes
+  filled_from : (i n : ℕ) (ahead : List ℕ) → n ≡ min (length ahead) (level - i) → replicate n place ++ drop n ahead ≡ raised_from place level i ahead
+  filled_from i zero [] e = refl
+  filled_from i (suc n) [] e = absurd (omega arith)
+  filled_from i zero (first ∷ others) e =
+      rw (le-ltb i level (omega arith)) (ap (λ xs. first ∷ xs) (filled_from (suc i) zero others (omega arith)))
+  filled_from i (suc n) (first ∷ others) e =
+      rw (lt-ltb i level (omega arith)) (ap (λ xs. place ∷ xs) (filled_from (suc i) n others (omega arith)))
 
-  -- the lanes below a lane as they are, and those from it on raised
-  unfoldable pub raised_on : ℕ → List ℕ → List ℕ
-  raised_on lane ahead = take lane ahead ++ raised_from place level lane (drop lane ahead)
-
-  pub raised_from_first : (ahead : List ℕ) → raised_on 0 ahead ≡ raised place level ahead
-  unfolding raised_on
-  raised_from_first ahead = refl
-
-  pub raised_onward : (lane : ℕ) (ahead : List ℕ) → lane < level → lane < length ahead
-      → raised_on lane ahead ≡ raised_on (lane + 1) (set ahead lane place)
-  unfolding raised_on
-  raised_onward lane ahead h l =
-      rw (
-        add-one lane,
-        take-suc-set ahead lane place l,
-        drop-set-lt (suc lane) ahead lane place (omega arith),
-        append_snoc (take lane ahead) place (raised_from place level (suc lane) (drop (suc lane) ahead)),
-        drop-cons ahead lane 0 l,
-        lt-ltb lane level h,
-      )
-
-  -- past the lanes of the node, and past all lanes
-  pub raised_done : (lane : ℕ) (ahead : List ℕ) → length ahead ≡ lanes → (level ≤ lane) ⊎ (lanes ≤ lane) → raised_on lane ahead ≡ ahead
-  unfolding raised_on
-  raised_done lane ahead e (inl h) = rw (raised_past lane (drop lane ahead) h) (take-append-drop lane ahead)
-  raised_done lane ahead e (inr h) =
-      let past : length ahead ≤ lane = omega arith in rw (drop_of_length-le ahead past, append-nil) (take_all lane ahead past)
-
--- ---- the link due in a lane
-
-module _ (level lane next : ℕ) where
-  pub link_due_lem : lane < level → next ≡ link_due level lane next
-  link_due_lem h = rw (lt-ltb lane level h)
-
-  pub no_link_due : level ≤ lane → 0 ≡ link_due level lane next
-  no_link_due h = rw (le-ltb lane level h)
+  pub raised_filled : {n : ℕ} {filled : List ℕ} (ahead : List ℕ) → n ≡ min lanes level → length ahead ≡ lanes
+      → filled ≡ replicate (length (take n ahead)) place → filled ++ drop n ahead ≡ raised place level ahead
+  raised_filled {n} ahead e l f =
+      let all : length (take n ahead) ≡ n = omega (arith, length-take n ahead) in rw (f, all) (filled_from 0 n ahead (omega arith))
 
 -- ---- the first places ahead of a place
 

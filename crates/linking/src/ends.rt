@@ -1,25 +1,24 @@
 // The places of the bands' ends, noted.
-ghost use Rattle.std.specs.Prelude.{◌≡◌, ◌<◌, ◌^◌, set};
+ghost use Rattle.std.specs.Prelude.{◌≡◌, ◌<◌, set, IfSome};
 ghost use Rattle.rules.specs.Connectives.{says_yes};
 ghost use Rattle.rules.specs.Lists.{all};
+ghost use Rattle.search.specs.PlaceOf.{place_said};
 ghost use Rattle.linking.specs.EndPlaces.{end_places_of, end_places, noted};
 
 // A place for each node, and one for the header.
 pub const MOST_PLACES: usize = store::MOST_NODES + 1;
 
-// Notes an end's place, and answers whether it has one.
-fn note(place: usize, found: &mut [u32]) -> bool
-    ensures { (result ≡ says_yes place) × (found.new ≡ set found.old place 1) }
+// Notes an end's place, and answers whether it has one. Word 0 is no node's: an end that has no place is noted there, as `noted` has it.
+fn note(place: Option<u32>, found: &mut [u32]) -> bool
+    requires { IfSome place (λ p. 0 < p) }
+    ensures { (result ≡ says_yes (place_said place)) × (found.new ≡ set found.old (place_said place) 1) }
 {
-    if place < found.len() {
-        found[place] = 1;
-    }
-    place != 0
+    store::put_word(found, place.unwrap_or(store::HEADER) as usize, 1);
+    place.is_some()
 }
 
 // Notes the places of the ends of the band of a number, if it is live, and answers whether all have one.
-fn note_ends_of(bands: &[u32], nodes: &[u32], number: usize, found: &mut [u32]) -> bool
-    requires { number < 2 ^ 32 }
+fn note_ends_of(bands: &[u32], nodes: &[u32], number: u32, found: &mut [u32]) -> bool
     ensures { (result ≡ all says_yes (end_places_of bands.now nodes.now number))
         × (found.new ≡ noted found.old (end_places_of bands.now nodes.now number)) }
 {
@@ -38,11 +37,8 @@ pub fn note_ends(bands: &[u32], nodes: &[u32], found: &mut [u32]) -> bool
         × (found.new ≡ noted found.old (end_places bands.now nodes.now)) }
 {
     let mut right = true;
-    let mut number = 0;
-    while number < store::BAND_PLACES {
-        let more = note_ends_of(bands, nodes, number, found);
-        right = right & more;
-        number += 1;
+    for number in 0..store::BAND_PLACES {
+        right &= note_ends_of(bands, nodes, number, found);
     }
     right
 }

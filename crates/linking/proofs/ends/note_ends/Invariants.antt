@@ -1,14 +1,7 @@
 -- `linking::ends::note_ends` meets its contract. The loop's invariant: what is left to note and to test comes to what all comes to.
 -- Assumes nothing.
-use Prim.Native.Nat.{◌-◌}
-use mathlib.Core.Path.{◌≡◌}
-use lib.ListN.{length}
-use Rattle.store.specs.Sizes.{band_places}
 use Rattle.linking.proofs.NotingSteps.{Noting}
 use Rattle.linking.proofs.ends.note_ends.Given as goal
 
 abbrev pub invariant-loop-number : goal.invariant-loop-number
-invariant-loop-number l = (length l.found ≡ length l.initial.found) × Noting l.bands l.nodes l.initial.found l.found l.right l.number
-
-abbrev pub decreases-loop-number : goal.decreases-loop-number
-decreases-loop-number l = band_places - l.number
+invariant-loop-number l = Noting l.bands l.nodes l.initial.found l.found l.right l.number

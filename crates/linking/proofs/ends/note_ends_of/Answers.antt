@@ -12,7 +12,7 @@ returns c =
     live_noted _ _ _ _
     (sym c.is_live.ensures ∙ c.if-not-is_live.false)
     c.band_at-band.ensures
-    c.place_of.ensures.0
-    c.place_of-2.ensures.0
+    c.place_of.ensures.place
+    c.place_of-2.ensures.place
     c.note-low.ensures
     c.note-high.ensures
