@@ -17,6 +17,8 @@ use Rattle.rules.specs.BoxSaysNo.{Answered, saying}
 use Rattle.rules.proofs.Lists.{Each}
 use Rattle.rules.proofs.OthersRefused.{SizesGive, StabGives}
 use Rattle.rules.proofs.Zeros.{StabOfZeros, BandOfZeros, EdgeOfZeros, NodeOfZeros, RoomOfZeros, ZerosIfRefused}
+use Rattle.std.specs.Prelude.{Result}
+use Rattle.hall.specs.declared.answers.Refusal.{Refusal}
 use Rattle.hall.specs.declared.keys.Key.{Key}
 use Rattle.hall.specs.declared.reads.StabRead.{StabRead}
 use Rattle.hall.specs.declared.reads.BandRead.{BandRead}
@@ -142,21 +144,21 @@ module _ (m : Memory) where
 -- ---- and so does whatever meets a promise
 
 module _ (κs : Lfts 3) where
-  pub any_stab : (given after : Lent (Key × Unit {0})) (r : StabRead) → StabPromise κs given r after
+  pub any_stab : (given after : Lent (Key × Unit {0})) (r : Result StabRead Refusal) → StabPromise κs given r after
       → StabTold (lent_memory given) (also_given given).0.0 (stab_says r) × SameWords after given
   any_stab given after r met =
       let m = lent_memory given in
       let k = (also_given given).0.0 in
       (subst (StabTold m k) (sym (what_was_told given after met)) (stab_told m k), words_left given after met)
 
-  pub any_band : (given after : Lent (ℕ × Unit {0})) (r : BandRead) → BandPromise κs given r after
+  pub any_band : (given after : Lent (ℕ × Unit {0})) (r : Result BandRead Refusal) → BandPromise κs given r after
       → BandTold (lent_memory given) (also_given given).0 (band_read_says r) × SameWords after given
   any_band given after r met =
       let m = lent_memory given in
       let number = (also_given given).0 in
       (subst (BandTold m number) (sym (what_was_told given after met)) (band_told m number), words_left given after met)
 
-  pub any_edge : (given after : Lent (Key × (ℕ × Unit {0}))) (r : EdgeRead) → EdgePromise κs given r after
+  pub any_edge : (given after : Lent (Key × (ℕ × Unit {0}))) (r : Result EdgeRead Refusal) → EdgePromise κs given r after
       → EdgeTold (lent_memory given) (also_given given).0.0 (also_given given).1.0 (edge_read_says r) × SameWords after given
   any_edge given after r met =
       let m = lent_memory given in
@@ -164,14 +166,14 @@ module _ (κs : Lfts 3) where
       let lane = (also_given given).1.0 in
       (subst (EdgeTold m k lane) (sym (what_was_told given after met)) (edge_told m k lane), words_left given after met)
 
-  pub any_node : (given after : Lent (Key × Unit {0})) (r : NodeRead) → NodePromise κs given r after
+  pub any_node : (given after : Lent (Key × Unit {0})) (r : Result NodeRead Refusal) → NodePromise κs given r after
       → NodeTold (lent_memory given) (also_given given).0.0 (node_read_says r) × SameWords after given
   any_node given after r met =
       let m = lent_memory given in
       let k = (also_given given).0.0 in
       (subst (NodeTold m k) (sym (what_was_told given after met)) (node_told m k), words_left given after met)
 
-  pub any_room : (given after : Lent (Unit {0})) (r : RoomRead) → RoomPromise κs given r after
+  pub any_room : (given after : Lent (Unit {0})) (r : Result RoomRead Refusal) → RoomPromise κs given r after
       → RoomTold (lent_memory given) (room_read_says r) × SameWords after given
   any_room given after r met =
       let m = lent_memory given in
@@ -188,7 +190,7 @@ pub record LentAlike {A : Type 0} (given other : Lent A) : Type 0 where
   pub also : also_given given ≡ also_given other
 
 module _ (κs : Lfts 3) where
-  pub any_stabs_alike : (given after other after' : Lent (Key × Unit {0})) (a b : StabRead) → StabPromise κs given a after → StabPromise κs other b after'
+  pub any_stabs_alike : (given after other after' : Lent (Key × Unit {0})) (a b : Result StabRead Refusal) → StabPromise κs given a after → StabPromise κs other b after'
       → LentAlike given other → a ≡ b
   any_stabs_alike given after other after' a b met met' alike =
       stab_told_back a b (
@@ -198,7 +200,7 @@ module _ (κs : Lfts 3) where
       ∙ sym (ap (λ o. o.told) met')
       )
 
-  pub any_edges_alike : (given after other after' : Lent (Key × (ℕ × Unit {0}))) (a b : EdgeRead) → EdgePromise κs given a after
+  pub any_edges_alike : (given after other after' : Lent (Key × (ℕ × Unit {0}))) (a b : Result EdgeRead Refusal) → EdgePromise κs given a after
       → EdgePromise κs other b after' → LentAlike given other → a ≡ b
   any_edges_alike given after other after' a b met met' alike =
       edge_told_back a b (
@@ -208,7 +210,7 @@ module _ (κs : Lfts 3) where
       ∙ sym (ap (λ o. o.told) met')
       )
 
-  pub any_nodes_alike : (given after other after' : Lent (Key × Unit {0})) (a b : NodeRead) → NodePromise κs given a after → NodePromise κs other b after'
+  pub any_nodes_alike : (given after other after' : Lent (Key × Unit {0})) (a b : Result NodeRead Refusal) → NodePromise κs given a after → NodePromise κs other b after'
       → LentAlike given other → a ≡ b
   any_nodes_alike given after other after' a b met met' alike =
       node_told_back a b (

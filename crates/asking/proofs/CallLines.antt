@@ -13,6 +13,9 @@ use Rattle.rules.specs.BoxSaysNo.{TableLine, refusal_by, saying, stab_lines, sta
 use Rattle.rules.proofs.FirstLine.{refusal_enough}
 use Rattle.rules.proofs.BoxSaysNo.{stab_accepted}
 use Rattle.rules.specs.Room.{most_marks}
+use Rattle.hall.specs.Says.{refusal_says}
+use Rattle.hall.specs.declared.answers.Refusal.{Refusal}
+use Rattle.hall.proofs.OneToOne.{no_refusal_says_0}
 use Rattle.store.specs.Sizes.{lengths_of, sizes_right}
 use Rattle.store.specs.Memory.{Memory, lengths_in}
 use Rattle.store.specs.Places.{band_field, live_field}
@@ -58,23 +61,24 @@ module _ (m : Memory) (right : sizes_right (lengths_in m) ≡ true) where
     band_read_lem live = rw (right, le-ltb _ _ in_range, live)
 
 -- 1 (sizes) and 4 are judged first where a key is given, and what they give stands
-module _ (m : Memory) (k n : ℕ) (judged : n ≡ stab_refusal (sizes_right (lengths_in m)) k) (given : n ≡ 0 → ⊥) where
-  pub stab_refused : saying n no_stab ≡ stab_in m k
+module _ (m : Memory) (k : ℕ) (r : Refusal) (judged : refusal_says r ≡ stab_refusal (sizes_right (lengths_in m)) k) where
+  pub stab_refused : saying (refusal_says r) no_stab ≡ stab_in m k
   unfolding stab_in
-  stab_refused = rw (← judged, ne_eqb n 0 given)
+  stab_refused = rw (← judged, ne_eqb (refusal_says r) 0 (no_refusal_says_0 r))
 
   -- lines after them play no part
-  first_lines : (ls : List TableLine) → refusal_by (stab_lines (sizes_right (lengths_in m)) k ++ ls) ≡ n
+  first_lines : (ls : List TableLine) → refusal_by (stab_lines (sizes_right (lengths_in m)) k ++ ls) ≡ refusal_says r
   unfolding stab_refusal
-  first_lines ls = refusal_enough (stab_lines (sizes_right (lengths_in m)) k) ls (λ z. given (judged ∙ z)) ∙ sym judged
+  first_lines ls =
+      refusal_enough (stab_lines (sizes_right (lengths_in m)) k) ls (λ z. no_refusal_says_0 r (judged ∙ z)) ∙ sym judged
 
-  pub edge_refused : (lane : ℕ) → saying n no_edge_read ≡ edge_in m k lane
+  pub edge_refused : (lane : ℕ) → saying (refusal_says r) no_edge_read ≡ edge_in m k lane
   unfolding edge_in edge_refusal_in
-  edge_refused lane = rw (first_lines _, ne_eqb n 0 given)
+  edge_refused lane = rw (first_lines _, ne_eqb (refusal_says r) 0 (no_refusal_says_0 r))
 
-  pub node_refused : saying n no_node_read ≡ node_in m k
+  pub node_refused : saying (refusal_says r) no_node_read ≡ node_in m k
   unfolding node_in node_refusal_in
-  node_refused = rw (first_lines _, ne_eqb n 0 given)
+  node_refused = rw (first_lines _, ne_eqb (refusal_says r) 0 (no_refusal_says_0 r))
 
 -- where they give nothing there are no more marks than the largest room has
 pub marks_fit : (b n m k : ℕ) → 0 ≡ stab_refusal (sizes_right (lengths_of b n m)) k → m ≤ most_marks

@@ -21,6 +21,7 @@
 --   OnSound           .. and so on sound memory, on the profile that the words say
 pub mod Promises
 pub mod CallLines
+pub mod PassedOn
 pub mod LaneTest
 pub mod BandOnAny
 pub mod Alike

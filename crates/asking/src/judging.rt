@@ -12,7 +12,7 @@ pub(crate) fn judge_key(bands: &[u32], nodes: &[u32], marks: &[u32], key: Key) -
     ensures { answer_says result ≡ stab_refusal (sizes_right (lengths_in (lent bands.now nodes.now marks.now))) key.0 }
 {
     if !store::sizes_right(bands, nodes, marks) {
-        return Answer::Refused(Refusal::MemoryUnfit);
+        return Err(Refusal::MemoryUnfit);
     }
     key.fault()
 }

@@ -5,23 +5,18 @@ ghost use Rattle.store.specs.Came.{asked, telling};
 ghost use Rattle.asking.specs.RoomCall.{room_read_in};
 ghost use Rattle.asking.specs.Says.{room_read_says};
 
-use hall::{Answer, Refusal, RoomRead};
+use hall::{Refusal, RoomRead};
 
 // The room used.
-pub fn room(bands: &[u32], nodes: &[u32], marks: &[u32]) -> RoomRead
+pub fn room(bands: &[u32], nodes: &[u32], marks: &[u32]) -> Result<RoomRead, Refusal>
     ensures { asked (room_read_says result) bands.exit.now nodes.exit.now marks.exit.now
         ≡ telling room_read_in (lent bands.entry.now nodes.entry.now marks.entry.now) }
 {
     if !store::sizes_right(bands, nodes, marks) {
-        return RoomRead {
-            answer: Answer::Refused(Refusal::MemoryUnfit),
-            nodes: 0,
-            marks: 0,
-        };
+        return Err(Refusal::MemoryUnfit);
     }
-    RoomRead {
-        answer: Answer::Done,
-        nodes: store::node_word(nodes, store::HEADER, store::NODES_IN_USE) as u32,
-        marks: store::node_word(nodes, store::HEADER, store::MARKS_IN_USE) as u32,
-    }
+    Ok(RoomRead {
+        nodes: store::node_word(nodes, store::HEADER, store::NODES_IN_USE),
+        marks: store::node_word(nodes, store::HEADER, store::MARKS_IN_USE),
+    })
 }

@@ -12,22 +12,21 @@ use Rattle.asking.proofs.band_readout.band.Goals as goal
 pub returns-then-not-sizes_right : goal.returns-then-not-sizes_right
 returns-then-not-sizes_right c =
     left_as_it_was
-    (c.refused.ensures ∙ band_by_1 _ (sym c.sizes_right.ensures ∙ c.if-not-sizes_right.true) _)
+    (band_by_1 _ (sym c.if-not-sizes_right.ensures) _)
 
 pub returns-then-number-gt-HIGHEST_NUMBER : goal.returns-then-number-gt-HIGHEST_NUMBER
 returns-then-number-gt-HIGHEST_NUMBER c =
     left_as_it_was
-    (c.refused-then-number-gt-HIGHEST_NUMBER.ensures ∙ band_by_3 _ (sym c.sizes_right.ensures ∙ c.if-not-sizes_right.false) _ (omega arith))
+    (band_by_3 _ (sym c.if-not-sizes_right.ensures) _ (omega arith))
 
 pub returns-then-not-is_live : goal.returns-then-not-is_live
 returns-then-not-is_live c =
     left_as_it_was
-    (c.refused-then-not-is_live.ensures
-    ∙ band_by_9 _ (sym c.sizes_right.ensures ∙ c.if-not-sizes_right.false) _ (omega arith) (sym c.is_live.ensures ∙ c.if-not-is_live.true))
+    (band_by_9 _ (sym c.if-not-sizes_right.ensures) _ (omega arith) (sym c.if-not-is_live.ensures))
 
 pub returns : goal.returns
 returns c =
     left_as_it_was
     (ap (λ b. saying 0 (band_read_of (some b))) c.band_at-band.ensures
-    ∙ band_read_lem _ (sym c.sizes_right.ensures ∙ c.if-not-sizes_right.false) _ (omega arith)
-    (sym c.is_live.ensures ∙ c.if-not-is_live.false))
+    ∙ band_read_lem _ (sym c.if-not-sizes_right.ensures) _ (omega arith)
+    (sym c.if-not-is_live.ensures))

@@ -12,4 +12,4 @@ returns-then-place-eq0 c = rw c.if-place-eq0.true
 
 pub returns-else-place-eq0 : goal.returns-else-place-eq0
 unfolding key_at
-returns-else-place-eq0 c = rw (ne_eqb _ _ c.if-place-eq0.false) (ap some c.node_word.ensures.0)
+returns-else-place-eq0 c = rw (ne_eqb _ _ c.if-place-eq0.false) (ap some c.node_word.ensures)
