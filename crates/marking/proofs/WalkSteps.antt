@@ -1,26 +1,27 @@
--- One place of a band's walk, step by step as the code goes: looking for the stair lane by lane from the highest, where the stair leads,
--- and storing the slots visited one after the other.
+-- One place of a band's walk, step by step as the code goes: the test of a link, where an edge found leads, and storing the slots visited one after the
+-- other.
 -- Assumes nothing.
-use Prim.Native.Nat.{ℕ, zero, suc, ◌+◌, ◌-◌, ◌*◌, ◌≤◌, ◌<◌}
+use Prim.Native.Nat.{ℕ, suc, ◌+◌, ◌-◌, ◌*◌, ◌<◌}
 use native.Mathlib.Omega.{arith}
 use native.Mathlib.Nat.{add-zero}
-use mathlib.Core.Path.{◌≡◌, refl, ap}
+use mathlib.Core.Path.{◌≡◌, refl, sym, ap}
 use mathlib.Core.Bool.{Bool, true, false, ◌&&◌}
+use borrow.Author.Tests.{ltb-true, ne_eqb}
+use Rattle.std.specs.Prelude.{Some, is_some}
+use Rattle.std.specs.Bool.{then_some}
 use mathlib.Core.List.{List, [], ◌∷◌}
 use lib.Dec.{leb, ltb}
-use lib.ListN.{length}
+use lib.ListN.{length, set}
 use lib.Seq.{sets}
 use Rattle.rules.specs.Connectives.{says_yes}
 use Rattle.rules.specs.Lists.{only_if, add_if}
 use Rattle.rules.specs.HallLine.{Band, holds}
 use Rattle.rules.specs.Staircase.{slots_per_node, slot_number}
 use Rattle.rules.proofs.Connectives.{both}
+use Rattle.rules.proofs.Means.{and_both, never}
+use Rattle.search.specs.PlaceOf.{place_said}
 use Rattle.store.specs.Places.{node_field, key_field, link_field, in_use}
-use Rattle.marking.specs.WordWalk.{leads_within, stair_below, stair_to, visited}
-
--- of one lane more the highest has this number
-highest_lane : (i : ℕ) → suc i - 1 ≡ i
-highest_lane i = omega arith
+use Rattle.marking.specs.WordWalk.{leads_within, visited}
 
 module _ (nodes : List ℕ) (here : ℕ) where
   -- the code's test of a link is the walk's
@@ -30,27 +31,19 @@ module _ (nodes : List ℕ) (here : ℕ) where
   unfolding leads_within
   tests_link high lane {next} u n k = rw (← n) (both (both refl (ap (leb next) u)) (ap (λ x. leb x high) k))
 
-  module _ (high : ℕ) where
-    -- the highest of the lowest m lanes has the stair ..
-    pub stair_here : (m : ℕ) → 0 < m → leads_within nodes high here (m - 1) ≡ true → stair_below nodes high here m ≡ m
-    stair_here zero l e = absurd (omega arith)
-    stair_here (suc i) l e = rw (rw (highest_lane i) at e)
+  -- a link that leads within leads to a later place
+  leads_later : (high lane : ℕ) → leads_within nodes high here lane ≡ true → here < node_field nodes here (link_field lane)
+  unfolding leads_within
+  leads_later high lane e = ltb-true _ _ (and_both _ _ (and_both _ _ e).0).0
 
-    -- .. or it is among those below ..
-    pub stair_lower : (m : ℕ) → 0 < m → leads_within nodes high here (m - 1) ≡ false
-        → stair_below nodes high here m ≡ stair_below nodes high here (m - 1)
-    stair_lower zero l e = absurd (omega arith)
-    stair_lower (suc i) l e = rw (highest_lane i, rw (highest_lane i) at e)
-
-    -- .. until none are left
-    pub no_stair : (m : ℕ) → m ≤ 0 → stair_below nodes high here m ≡ 0
-    no_stair zero l = refl
-    no_stair (suc i) l = absurd (omega arith)
-
-  -- a stair leads where its link does
-  pub stair_leads : (stair : ℕ) → (stair ≡ 0 → ⊥) → node_field nodes here (2 + stair - 1) ≡ stair_to nodes here stair
-  stair_leads zero n = absurd (n refl)
-  stair_leads (suc i) n = ap (node_field nodes here) (omega arith)
+  -- so does the edge found
+  pub edge_later : (high lane : ℕ) {next : ℕ} → Some next ≡ then_some (leads_within nodes high here lane) (node_field nodes here (link_field lane))
+      → here < next
+  edge_later high lane {next} found = go (leads_within nodes high here lane) refl found
+    where
+      go : (t : Bool) → leads_within nodes high here lane ≡ t → Some next ≡ then_some t (node_field nodes here (link_field lane)) → here < next
+      go true e f = rw (ap place_said f) (leads_later high lane e)
+      go false e f = never (sym (ap is_some f))
 
 -- a word where one test holds and then one where another does: stored one after the other
 stored_both : (old : List ℕ) (at v w : ℕ) (t u : Bool)
@@ -67,19 +60,41 @@ length_both at v w false u = omega arith
 abbrev own_slot : ℕ → ℕ
 own_slot here = (here - 1) * slots_per_node
 
--- what is visited at a place is stored so
-module _ (nodes : List ℕ) (b : Band) (here stair : ℕ) {key : ℕ} {t : Bool} (k : key ≡ node_field nodes here key_field) (h : t ≡ holds b key) where
-  visits : visited nodes b here stair ≡ add_if t (own_slot here) (only_if (says_yes stair) ((own_slot here + stair) ∷ []))
-  unfolding slot_number
-  visits = rw (h, k, add-zero)
+-- the node's own slot is stored, where the band holds its key
+abbrev pub OwnStored : ℕ → Bool → List ℕ → ℕ → List ℕ → ℕ → Type 0
+OwnStored here t old at words count = (words ≡ sets old at (only_if t (own_slot here ∷ []))) × (count ≡ at + length (only_if t (own_slot here ∷ [])))
 
-  pub stored_visited : (old : List ℕ) (at : ℕ) {words more : List ℕ} {next end : ℕ}
-      → words ≡ sets old at (only_if t (own_slot here ∷ []))
-      → next ≡ at + length (only_if t (own_slot here ∷ []))
-      → more ≡ sets words next (only_if (says_yes stair) ((own_slot here + stair) ∷ []))
-      → end ≡ next + length (only_if (says_yes stair) ((own_slot here + stair) ∷ []))
-      → (more ≡ sets old at (visited nodes b here stair)) × (end ≡ at + length (visited nodes b here stair))
-  stored_visited old at s n s' n' = rw (s', n', s, n, visits) (
-    stored_both old at _ _ t (says_yes stair),
-    length_both at _ _ t (says_yes stair),
-  )
+module _ (here : ℕ) {t : Bool} (old : List ℕ) (at : ℕ) {words : List ℕ} {count : ℕ} where
+  pub own_stored : t ≡ true → words ≡ set old at (own_slot here) → count ≡ at + 1 → OwnStored here t old at words count
+  own_stored e s n = rw e (s, n)
+
+  pub own_left_out : t ≡ false → words ≡ old → count ≡ at → OwnStored here t old at words count
+  own_left_out e s n = rw e (s, omega arith)
+
+-- what is visited at a place is stored so: its node's own slot ..
+module _ (nodes : List ℕ) (b : Band) (here : ℕ) {key : ℕ} {t : Bool} (k : key ≡ node_field nodes here key_field) (h : t ≡ holds b key) where
+  visits : (stair : ℕ) → visited nodes b here stair ≡ add_if t (own_slot here) (only_if (says_yes stair) ((own_slot here + stair) ∷ []))
+  unfolding slot_number
+  visits stair = rw (h, k, add-zero)
+
+  module _ (old : List ℕ) (at : ℕ) {words : List ℕ} {count : ℕ} (own : OwnStored here t old at words count) where
+    stored_visited : (stair : ℕ) {more : List ℕ} {end : ℕ}
+        → more ≡ sets words count (only_if (says_yes stair) ((own_slot here + stair) ∷ []))
+        → end ≡ count + length (only_if (says_yes stair) ((own_slot here + stair) ∷ []))
+        → (more ≡ sets old at (visited nodes b here stair)) × (end ≡ at + length (visited nodes b here stair))
+    stored_visited stair s n = rw (s, n, own.0, own.1, visits stair) (
+      stored_both old at _ _ t (says_yes stair),
+      length_both at _ _ t (says_yes stair),
+    )
+
+    -- .. alone where there is no stair ..
+    pub stored_own : (words ≡ sets old at (visited nodes b here 0)) × (count ≡ at + length (visited nodes b here 0))
+    stored_own = stored_visited 0 refl (omega arith)
+
+    -- .. and else the stair's too
+    pub stored_stair : (lane : ℕ) {more : List ℕ} → more ≡ set words count (own_slot here + 1 + lane)
+        → (more ≡ sets old at (visited nodes b here (suc lane))) × (count + 1 ≡ at + length (visited nodes b here (suc lane)))
+    stored_stair lane s =
+        let edge : own_slot here + 1 + lane ≡ own_slot here + suc lane = omega arith in
+        let some : says_yes (suc lane) ≡ true = rw (ne_eqb (suc lane) 0 (λ z. omega arith)) in
+        stored_visited (suc lane) (rw some (rw edge at s)) (rw some)

@@ -3,14 +3,14 @@
 -- Assumes nothing.
 use Prim.Native.Nat.{ℕ, zero, suc, ◌+◌, ◌-◌, ◌*◌, ◌≤◌, ◌<◌}
 use native.Mathlib.Omega.{arith}
-use mathlib.Core.Path.{◌≡◌, refl, sym, ◌∙◌, ap}
+use mathlib.Core.Path.{◌≡◌, refl}
 use mathlib.Core.Bool.{Bool, true, false, cond}
 use mathlib.Core.Logic.{◌⊎◌, inl, inr, ⊎_elim}
 use mathlib.Core.List.{List, [], ◌∷◌, ◌++◌}
 use borrow.Author.Tests.{ltb-true, leb-true, ne_eqb}
 use lib.Dec.{eqb}
 use lib.ListN.{length, set, take, length-append}
-use lib.Seq.{sets, sets-eq, length-sets, take_at}
+use lib.Seq.{sets, sets-eq, take_at}
 use Rattle.rules.specs.Connectives.{says_yes}
 use Rattle.rules.specs.Lists.{only_if, add_if}
 use Rattle.rules.specs.HallLine.{Band, holds}
@@ -124,20 +124,17 @@ module _ (nodes : List ℕ) (b : Band) where
     pub count_within : count ≤ length (walked nodes b)
     count_within = omega (arith, mid.counted)
 
-    pub as_long : length slots ≡ length old
-    as_long = sym (length-sets slots count (walk_on nodes b mid.steps here)) ∙ ap length mid.written ∙ length-sets old 0 (walked nodes b)
-
     -- at its end nothing is left to write ..
     none_to_write : here ≡ 0 → (slots ≡ sets old 0 (walked nodes b)) × (count ≡ length (walked nodes b))
     none_to_write e = (rw (e, walk_ends) at mid.written, omega (arith, rw (e, walk_ends) at mid.counted))
 
     -- .. and the slots stand in the first words
     pub all_written : in_use nodes ≤ most_nodes → most_visited ≤ length old → here ≡ 0
-        → (count ≡ length (walked nodes b)) × (take count slots ≡ walked nodes b) × (count ≤ most_visited)
+        → (take count slots ≡ walked nodes b) × (count ≤ most_visited)
     all_written few long e =
         let ends = none_to_write e in
         let within = walked_within few in
-        (ends.1, rw (ends.0, ends.1) (stored_first old (walked nodes b) (omega arith)), omega arith)
+        (rw (ends.0, ends.1) (stored_first old (walked nodes b) (omega arith)), omega arith)
 
     module _ (some : here ≡ 0 → ⊥) {stair next : ℕ} (taken : stair ≡ stair_at nodes b.high here) (led : next ≡ stair_to nodes here stair) where
       leads : Onward nodes here next

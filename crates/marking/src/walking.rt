@@ -1,12 +1,13 @@
 // One band's marks: the walk from its low end to its high end, always along the highest edge that stays inside the band.
-ghost use Rattle.std.specs.Prelude.{◌≡◌, ◌+◌, ◌≤◌, ◌<◌, ◌^◌, [], ◌∷◌, length, take};
+ghost use Rattle.std.specs.Prelude.{◌≡◌, ◌+◌, ◌≤◌, ◌<◌, length, take, IfSome};
+ghost use Rattle.std.specs.Bool.{then_some};
 ghost use Rattle.std.proofs.lemmas.List.Edits.{sets};
-ghost use Rattle.rules.specs.Lists.{only_if};
 ghost use Rattle.rules.specs.NodesLanesEdges.{lanes};
 ghost use Rattle.rules.specs.Room.{most_nodes};
 ghost use Rattle.hall.specs.SaidBand.{said};
-ghost use Rattle.store.specs.Places.{in_use};
+ghost use Rattle.store.specs.Places.{node_field, link_field, in_use};
 ghost use Rattle.marking.specs.WordWalk.{leads_within, stair_at, stair_to, visited, walked, slots_of};
+ghost use Rattle.marking.specs.Stairs.{stair_slot, stair_next};
 ghost use Rattle.marking.specs.Staircases.{most_visited};
 
 use hall::{Band, Key};
@@ -14,110 +15,98 @@ use hall::{Band, Key};
 // The most slots that one walk visits.
 pub(crate) const MOST_VISITED: usize = 2 * store::MOST_NODES;
 
-// Whether the link leads to a later place in use, whose key is not above the high end.
-fn leads_within(nodes: &[u32], here: usize, lane: usize, high: Key) -> bool
-    requires { (here < 2 ^ 32) × (lane < lanes) }
-    ensures { result ≡ leads_within nodes.now high.0 here lane }
+// An edge along which a walk goes on: its lane, and the place that it leads to.
+#[derive(Clone, Copy)]
+struct Stair {
+    lane: usize,
+    next: u32,
+}
+
+// Where the link leads, if that is a later place in use, whose key is not above the high end.
+fn edge_within(nodes: &[u32], here: u32, lane: usize, high: Key) -> Option<u32>
+    requires { lane < lanes }
+    ensures { result
+        ≡ then_some (leads_within nodes.now high.0 here lane) (node_field nodes.now here (link_field lane)) }
 {
     let in_use = store::node_word(nodes, store::HEADER, store::NODES_IN_USE);
     let next = store::node_word(nodes, here, store::LINKS + lane);
     let next_key = store::node_word(nodes, next, store::KEY);
-    let end = high.0 as usize;
-    (here < next) & (next <= in_use) & (next_key <= end)
+    let within = (here < next) & (next <= in_use) & (next_key <= high.0);
+    within.then_some(next)
 }
 
-// The slot of the highest edge that stays inside the band; 0 for none.
-fn stair_at(nodes: &[u32], here: usize, high: Key) -> usize
-    requires { here < 2 ^ 32 }
-    ensures { (result ≡ stair_at nodes.now high.0 here) × (result ≤ lanes) }
+// The highest edge that stays inside the band, if there is one.
+fn stair_at(nodes: &[u32], here: u32, high: Key) -> Option<Stair>
+    ensures slot { stair_slot result ≡ stair_at nodes.now high.0 here }
+    ensures next { stair_next result ≡ stair_to nodes.now here (stair_slot result) }
+    ensures lane { IfSome result (λ s. s.lane < lanes) }
+    ensures later { IfSome result (λ s. here < s.next) }
 {
-    let mut below = store::LANES;
-    while 0 < below {
-        if leads_within(nodes, here, below - 1, high) {
-            return below;
+    for lane in (0..store::LANES).rev() {
+        if let Some(next) = edge_within(nodes, here, lane, high) {
+            return Some(Stair { lane, next });
         }
-        below -= 1;
     }
-    0
+    None
 }
 
-// Where the edge of a slot leads; slot 0 is the node's own and leads nowhere.
-fn stair_to(nodes: &[u32], here: usize, stair: usize) -> usize
-    requires { (here < 2 ^ 32) × (stair ≤ lanes) }
-    ensures { (result ≡ stair_to nodes.now here stair) × (result < 2 ^ 32) }
-{
-    if stair == 0 {
-        return 0;
-    }
-    store::node_word(nodes, here, store::LINKS + stair - 1)
-}
-
-// Stores a word past the first `at` where the test says so, and answers how many there are then.
-fn put_word_if(words: &mut [u32], at: usize, value: usize, test: bool) -> usize
-    requires { (at ≤ 2 ^ 32) × (value < 2 ^ 32) }
-    ensures { (words.new ≡ sets words.old at (only_if test (value ∷ [])))
-        × (result ≡ at + length (only_if test (value ∷ [])))
-        × (result ≤ at + 1) }
-{
-    if test {
-        store::put_word(words, at, value);
-        at + 1
-    } else {
-        at
-    }
-}
-
-// Writes the slots visited at a place past the first `at`, and answers how many there are then.
+// Writes the slots visited at a place past the first `at`, and answers how many there are then: the node's own where the band holds its key, and the
+// stair's where there is one.
 fn visit(
     nodes: &[u32],
     band: Band,
-    here: usize,
-    stair: usize,
-    slots: &mut [u32],
+    here: u32,
+    stair: Option<Stair>,
+    slots: &mut [u32; MOST_VISITED],
     at: usize,
 ) -> usize
-    requires { (1 ≤ here) × (here ≤ most_nodes) × (stair ≤ lanes) × (at < 2 ^ 32) }
-    ensures { (slots.new ≡ sets slots.old at (visited nodes.now (said band) here stair))
-        × (result ≡ at + length (visited nodes.now (said band) here stair)) }
+    requires { (1 ≤ here) × (here ≤ most_nodes) × (at ≤ most_visited) × (IfSome stair (λ s. s.lane < lanes)) }
+    ensures { (slots.new ≡ sets slots.old at (visited nodes.now (said band) here (stair_slot stair)))
+        × (result ≡ at + length (visited nodes.now (said band) here (stair_slot stair))) }
 {
-    let first = (here - 1) * store::SLOTS_PER_NODE;
-    let key = store::node_word(nodes, here, store::KEY);
-    let holds = band.holds(Key(key as u32));
-    let next = put_word_if(slots, at, first, holds);
-    put_word_if(slots, next, first + stair, stair != 0)
-}
-
-// Writes the slots of one band, and answers how many they are.
-fn walk(nodes: &[u32], band: Band, slots: &mut [u32]) -> usize
-    requires { (in_use nodes.now ≤ most_nodes) × (most_visited ≤ length slots.old) }
-    ensures { (result ≡ length (walked nodes.now (said band)))
-        × (take result slots.new ≡ walked nodes.now (said band))
-        × (result ≤ most_visited) }
-{
-    let mut count = 0;
-    let mut here = search::place_of(nodes, band.low);
-    while here != 0 {
-        let stair = stair_at(nodes, here, band.high);
-        let more = visit(nodes, band, here, stair, slots, count);
-        count = more;
-        let next = stair_to(nodes, here, stair);
-        here = next;
+    let first = (here - 1) * store::SLOTS_PER_NODE as u32;
+    let key = Key(store::node_word(nodes, here, store::KEY));
+    let mut count = at;
+    if band.holds(key) {
+        store::put_word(slots, count, first);
+        count += 1;
+    }
+    if let Some(stair) = stair {
+        store::put_word(slots, count, first + 1 + stair.lane as u32);
+        count += 1;
     }
     count
 }
 
-// Writes the slots of the band of a number, none where the number is not live, and answers how many they are.
-pub(crate) fn slots_of(bands: &[u32], nodes: &[u32], number: usize, slots: &mut [u32]) -> usize
-    requires { (number < 2 ^ 32)
-        × (in_use nodes.now ≤ most_nodes)
-        × (most_visited ≤ length slots.old) }
-    ensures { (result ≡ length (slots_of bands.now nodes.now number))
-        × (take result slots.new ≡ slots_of bands.now nodes.now number)
-        × (result ≤ most_visited) }
+// Writes the slots of one band, and answers how many they are.
+fn walk(nodes: &[u32], band: Band, slots: &mut [u32; MOST_VISITED]) -> usize
+    requires { in_use nodes.now ≤ most_nodes }
+    ensures { (take result slots.new ≡ walked nodes.now (said band)) × (result ≤ most_visited) }
 {
-    if store::is_live(bands, number) {
-        walk(nodes, store::band_at(bands, number), slots)
-    } else {
-        0
+    let mut count = 0;
+    let mut here = search::place_of(nodes, band.low);
+    while let Some(place) = here {
+        let stair = stair_at(nodes, place, band.high);
+        count = visit(nodes, band, place, stair, slots, count);
+        here = stair.map(|stair| stair.next);
     }
+    count
+}
+
+// The slots of the band of a number, written there; none where the number is not live.
+pub(crate) fn slots_of<'a>(
+    bands: &[u32],
+    nodes: &[u32],
+    number: u32,
+    slots: &'a mut [u32; MOST_VISITED],
+) -> &'a [u32]
+    requires { in_use nodes.now ≤ most_nodes }
+    ensures { (result.now ≡ slots_of bands.now nodes.now number)
+        × (length result.now ≤ most_visited) }
+{
+    if !store::is_live(bands, number) {
+        return &[];
+    }
+    let count = walk(nodes, store::band_at(bands, number), slots);
+    &slots[..count]
 }
