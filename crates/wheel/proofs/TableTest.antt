@@ -1,16 +1,23 @@
--- What the test over a table says of each entry: where no place is wrong it is the rule's.
+-- The test over the wheel's table finds no wrong place, and what the test over a table says of each entry: where no place is wrong it is the rule's.
 -- Assumes nothing.
 use Prim.Native.Nat.{ℕ, zero, suc, ◌+◌, ◌<◌}
 use native.Mathlib.Omega.{arith}
 use mathlib.Core.Path.{◌≡◌, refl, ap, ◌∙◌}
 use mathlib.Core.Bool.{Bool, true, false, not}
 use mathlib.Core.List.{List, [], ◌∷◌}
+use lib.Count.{count_trailing_zeros}
 use lib.Dec.{eqb}
 use lib.ListN.{length, get_or}
 use borrow.Author.Tests.{eqb-true}
 use Rattle.rules.specs.Lists.{add_if}
 use Rattle.rules.specs.Wheel.{wheel_places, wheel_level}
 use Rattle.wheel.specs.TableTest.{wrong_from, TableRight}
+use Rattle.wheel.specs.declared.levels.TheConstants.{LEVELS}
+
+-- computed, over all its places
+pub table_right : TableRight LEVELS
+unfolding wheel_level count_trailing_zeros
+table_right = record { whole = refl; none_wrong = refl }
 
 -- from any place on
 entries_by_rule : (place : ℕ) (ls : List ℕ) → wrong_from place ls ≡ [] → (i : ℕ) → i < length ls → get_or ls i 0 ≡ wheel_level (i + place)

@@ -5,7 +5,7 @@ ghost use Rattle.rules.specs.Wheel.{wheel_places, next_place, off_wheel};
 pub(crate) const PLACES: u32 = 1024;
 
 // A place on the wheel, as given, counted from 1: any number can stand here, and `turn` judges it. It is a kind of its own, so that none is typed for a level.
-#[derive(Clone, Copy)]
+#[derive(Clone, Copy, Debug, PartialEq, Eq, PartialOrd, Ord)]
 pub struct Place(pub u32);
 
 impl Place {
@@ -13,7 +13,7 @@ impl Place {
     pub(crate) fn is_off(self) -> bool
         ensures { result ≡ (off_wheel self.0).applies }
     {
-        (self.0 == 0) | (PLACES < self.0)
+        !(1..=PLACES).contains(&self.0)
     }
 
     // The place that follows; after the last comes the first.

@@ -15,9 +15,7 @@ passed : (place : ℕ) {off : Bool} → off ≡ (off_wheel place).applies → of
 passed place told left = (off_wheel_fails place).fact (sym told ∙ left)
 
 pub returns-then-is_off : goal.returns-then-is_off
-returns-then-is_off c =
-    let place = c.args.place.0 in
-    c.refused.ensures ∙ sym (turn_off_wheel place ((off_wheel_means place).fact (sym c.is_off.ensures ∙ c.if-is_off.true)))
+returns-then-is_off c = sym (turn_off_wheel c.args.place.0 ((off_wheel_means _).fact (sym c.is_off.ensures ∙ c.if-is_off.true)))
 
 pub overflow_sub-place : goal.overflow_sub-place
 overflow_sub-place c =
