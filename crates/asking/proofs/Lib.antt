@@ -15,6 +15,7 @@
 -- What these are stated and proved with:
 --   Promises          the promise of each call, by name
 --   CallLines         what a call answers, from plain facts on memory and arguments: a law for each place where its code returns
+--   PassedOn          what a `?` passes on
 --   LaneTest          the code's test of an edge's lane is the rules'
 --   BandOnAny         the band readout is the rules' own on the bands that the words say
 --   StabOnLaid, EdgeOnLaid, NodeOnLaid, RoomOnLaid    the calls are the rules' own where words lay a standing profile

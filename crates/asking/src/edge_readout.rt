@@ -36,6 +36,7 @@ pub fn edge(
 }
 
 // The key of the node at a place; none at place 0.
+#[tactic(auto, unfolding(crate::specs::EdgeCall::key_at))]
 fn key_at(nodes: &[u32], place: u32) -> Option<Key>
     ensures { key_said (key_says result) ≡ key_at nodes.now place }
 {

@@ -8,6 +8,7 @@ ghost use Rattle.store.specs.Memory.{lent, lengths_in};
 use hall::{Answer, Key, Refusal};
 
 // 1 (sizes), then 4. Of the bands only the length is looked at.
+#[tactic(auto, unfolding(rules::specs::BoxSaysNo::stab_refusal, rules::specs::BoxSaysNo::key_fault))]
 pub(crate) fn judge_key(bands: &[u32], nodes: &[u32], marks: &[u32], key: Key) -> Answer
     ensures { answer_says result ≡ stab_refusal (sizes_right (lengths_in (lent bands.now nodes.now marks.now))) key.0 }
 {
