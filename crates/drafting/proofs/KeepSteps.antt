@@ -1,16 +1,18 @@
 -- Drafting the nodes whose places are noted, place by place.
 -- Assumes nothing.
 use Prim.Native.Nat.{ℕ, suc, ◌+◌, ◌-◌, ◌≤◌, ◌<◌}
-use mathlib.Core.Path.{◌≡◌, sym, ◌∙◌, subst}
-use mathlib.Core.Bool.{true, false}
+use mathlib.Core.Path.{◌≡◌, sym, ◌∙◌, ap, subst}
+use mathlib.Core.Bool.{true, false, not}
 use mathlib.Core.List.{List, [], ◌∷◌, ◌++◌, append_assoc, append-nil}
 use native.Mathlib.Numerals.{add-one}
 use native.Mathlib.Omega.{arith}
-use lib.ListN.{length, replicate, length-append}
+use borrow.Author.Tests.{ne_eqb}
+use lib.ListN.{length, get_or, replicate, length-append}
+use Rattle.rules.specs.Connectives.{says_yes}
 use Rattle.rules.specs.Lists.{add_if}
-use Rattle.rules.specs.NodesLanesEdges.{Node, node_of}
+use Rattle.rules.specs.NodesLanesEdges.{Node}
 use Rattle.rules.specs.Room.{most_nodes}
-use Rattle.store.specs.Places.{node_field, key_field, level_field, in_use}
+use Rattle.store.specs.Places.{in_use}
 use Rattle.store.specs.SaidProfile.{said_node}
 use Rattle.linking.specs.EndPlaces.{is_noted}
 use Rattle.drafting.specs.NodeDraft.{draft_words, DraftOf, with_one_more}
@@ -57,27 +59,26 @@ module _ (nodes found : List ℕ) where
           rw (one_more, ← add-one place) at h.completed
 
       -- a place that is not noted is passed over ..
-      pub place_passed : {same : List ℕ} → is_noted found place ≡ false → same ≡ draft → KeptSoFar same (place + 1)
+      pub place_passed : {same : List ℕ} → get_or found place 0 ≡ 0 → same ≡ draft → KeptSoFar same (place + 1)
       place_passed e unchanged =
+          let not_noted : is_noted found place ≡ false = ap says_yes e in
           record {
             kept = h.kept;
             drafted = rw unchanged h.drafted;
             fewer = omega (arith, h.fewer);
-            completed = rw e at here_and_after;
+            completed = rw not_noted at here_and_after;
           }
 
       -- .. and the node of one that is noted is drafted
-      pub place_kept : {more : List ℕ} {key level : ℕ} → in_use nodes ≤ most_nodes → is_noted found place ≡ true
-          → key ≡ node_field nodes place key_field → level ≡ node_field nodes place level_field
-          → more ≡ with_one_more draft (node_of key level)
-          → KeptSoFar more (place + 1)
-      unfolding said_node
-      place_kept {more} {key} {level} room e k l one_more =
+      pub place_kept : {more : List ℕ} {n : Node} → in_use nodes ≤ most_nodes → (get_or found place 0 ≡ 0 → ⊥) → n ≡ said_node nodes place
+          → more ≡ with_one_more draft n → KeptSoFar more (place + 1)
+      place_kept {more} {n} room e here one_more =
+          let noted : is_noted found place ≡ true = ap not (ne_eqb _ 0 e) in
           record {
-            kept = h.kept ++ node_of key level ∷ [];
-            drafted = rw one_more (one_more_drafted h.kept draft h.drafted (node_of key level) (omega (arith, h.fewer)));
-            fewer = omega (arith, h.fewer, length-append h.kept (node_of key level ∷ []));
-            completed = append_assoc h.kept (node_of key level ∷ []) (nodes_left (place + 1)) ∙ rw (k, l) (rw e at here_and_after);
+            kept = h.kept ++ n ∷ [];
+            drafted = rw one_more (one_more_drafted h.kept draft h.drafted n (omega (arith, h.fewer)));
+            fewer = omega (arith, h.fewer, length-append h.kept (n ∷ []));
+            completed = append_assoc h.kept (n ∷ []) (nodes_left (place + 1)) ∙ rw here (rw noted at here_and_after);
           }
 
     pub keeping_ends : in_use nodes < place → DraftOf (noted_nodes nodes found) draft

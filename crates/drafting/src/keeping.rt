@@ -13,39 +13,19 @@ ghost use Rattle.drafting.specs.Leaves.{Leaves};
 ghost use Rattle.drafting.specs.NotedNodes.{noted_nodes};
 
 use crate::node_drafting;
-use hall::Key;
 
 // Drafts the nodes whose places are noted.
-fn keep_noted(nodes: &[u32], found: &[u32], draft: &mut [u32])
-    requires { (in_use nodes.now ≤ most_nodes)
-        × (in_use nodes.now < length found.now)
-        × (draft.old ≡ replicate draft_words 0) }
+fn keep_noted(nodes: &[u32], found: &[u32; linking::MOST_PLACES], draft: &mut [u32])
+    requires { (in_use nodes.now ≤ most_nodes) × (draft.old ≡ replicate draft_words 0) }
     ensures { DraftOf (noted_nodes nodes.now found.now) draft.new }
 {
     let in_use = store::node_word(nodes, store::HEADER, store::NODES_IN_USE);
-    let mut place = 1;
-    while place <= in_use {
-        if found[place] != 0 {
-            let key = store::node_word(nodes, place, store::KEY) as u32;
-            let level = store::node_word(nodes, place, store::LEVEL) as u32;
-            node_drafting::add_node(draft, Key(key), level);
+    for place in 1..=in_use {
+        let noted = found[place as usize] != 0;
+        if noted {
+            node_drafting::add_node(draft, node_drafting::node_at(nodes, place));
         }
-        place += 1;
     }
-}
-
-// Drafts the nodes at an end of a band, with words to note their places in.
-fn keep_ends_with(bands: &[u32], nodes: &[u32], found: &mut [u32], draft: &mut [u32])
-    requires { (in_use nodes.now ≤ most_nodes)
-        × (in_use nodes.now ≤ length nodes.now / node_place_words - 1)
-        × (keys_ascend 0 (said_nodes nodes.now) ≡ true)
-        × (in_use nodes.now < length found.old)
-        × (found.old ≡ replicate (length found.old) 0)
-        × (draft.old ≡ replicate draft_words 0) }
-    ensures { DraftOf (nodes_at_ends (said_bands bands.now) (said_nodes nodes.now)) draft.new }
-{
-    linking::note_ends(bands, nodes, found);
-    keep_noted(nodes, found, draft);
 }
 
 // Drafts what band words and node words leave: the nodes at an end of a band. The ends are noted, number by number, rather than each node looked for
@@ -55,5 +35,6 @@ pub fn keep_ends(bands: &[u32], nodes: &[u32], draft: &mut [u32])
     ensures { (p : Profile) → Leaves p bands.now nodes.now → Drafts p bands.now draft.new }
 {
     let mut found = [0u32; linking::MOST_PLACES];
-    keep_ends_with(bands, nodes, &mut found, draft);
+    linking::note_ends(bands, nodes, &mut found);
+    keep_noted(nodes, &found, draft);
 }

@@ -1,12 +1,8 @@
 -- `drafting::keeping::keep_noted` meets its contract. The loop's invariant: the nodes drafted so far and those noted from here on are all that are
 -- noted.
 -- Assumes nothing.
-use Prim.Native.Nat.{◌+◌, ◌-◌}
 use Rattle.drafting.proofs.KeepSteps.{KeptSoFar}
 use Rattle.drafting.proofs.keeping.keep_noted.Given as goal
 
 abbrev pub invariant-loop-place : goal.invariant-loop-place
 invariant-loop-place l = KeptSoFar l.nodes l.found l.draft l.place
-
-abbrev pub decreases-loop-place : goal.decreases-loop-place
-decreases-loop-place l = l.in_use + 1 - l.place
