@@ -1,7 +1,7 @@
 -- The search and the finding over words.
 -- What the code is held against, step by step:
 --   TakenMarks     taking marks one by one
---   NextNode       what the code reads of the next node, and its tests of it
+--   NextNode       the rule's tests of the next node, by what the code is told of it
 --   DescendSteps   finishing the search from here comes to the same after each step
 --   Searching      what holds in the midst of a search: the invariant of its loops
 --   PlaceSteps     halving the places in use

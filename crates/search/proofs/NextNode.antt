@@ -1,27 +1,39 @@
--- What the code reads of the next node in a lane, and that its tests of it are the rule's.
+-- The rule's tests of the next node, where one stands there and where none does.
 -- Assumes nothing.
 use Prim.Native.Nat.{ℕ}
-use mathlib.Core.Path.{◌≡◌, refl, ap}
-use mathlib.Core.Bool.{not, ◌&&◌}
+use native.Mathlib.Omega.{arith}
+use mathlib.Core.Path.{◌≡◌}
+use mathlib.Core.Bool.{false}
 use mathlib.Core.List.{List}
+use borrow.Author.Tests.{ne_eqb}
 use lib.Dec.{eqb, ltb}
-use Rattle.rules.proofs.Connectives.{both}
-use Rattle.store.specs.Places.{node_field, key_field, link_field}
-use Rattle.search.specs.Descent.{next_of, is_below, is_at, is_above}
+use Rattle.rules.specs.Connectives.{◌and◌}
+use Rattle.search.specs.declared.next.Next.{Next}
+use Rattle.search.specs.Descent.{is_below, is_at, is_above}
+use Rattle.search.specs.Next.{IsNext}
 
-pub record NextRead (nodes : List ℕ) (i lane next next_key : ℕ) : Type 0 where
-  pub link : next ≡ node_field nodes i (link_field lane)
-  pub key : next_key ≡ node_field nodes next key_field
+module _ {nodes : List ℕ} {i : ℕ} {next : Next} (n : IsNext nodes i next) (k : ℕ) where
+  pub tests_below : is_below nodes k i ≡ ltb next.key.0 k
+  unfolding is_below ◌and◌
+  tests_below = rw (ne_eqb i 0 (λ z. omega (arith, n.leads)), n.key)
 
-module _ {nodes : List ℕ} {i lane next next_key : ℕ} (n : NextRead nodes i lane next next_key) (k : ℕ) where
-  pub tests_below : not (eqb next 0) && ltb next_key k ≡ is_below nodes k (next_of nodes i lane)
-  unfolding is_below next_of
-  tests_below = rw (← n.link) (both refl (ap (λ (x : ℕ). ltb x k) n.key))
+  pub tests_at : is_at nodes k i ≡ eqb next.key.0 k
+  unfolding is_at ◌and◌
+  tests_at = rw (ne_eqb i 0 (λ z. omega (arith, n.leads)), n.key)
 
-  pub tests_at : not (eqb next 0) && eqb next_key k ≡ is_at nodes k (next_of nodes i lane)
-  unfolding is_at next_of
-  tests_at = rw (← n.link) (both refl (ap (λ (x : ℕ). eqb x k) n.key))
+  pub tests_above : is_above nodes k i ≡ ltb k next.key.0
+  unfolding is_above ◌and◌
+  tests_above = rw (ne_eqb i 0 (λ z. omega (arith, n.leads)), n.key)
 
-  pub tests_above : not (eqb next 0) && ltb k next_key ≡ is_above nodes k (next_of nodes i lane)
-  unfolding is_above next_of
-  tests_above = rw (← n.link) (both refl (ap (ltb k) n.key))
+module _ (nodes : List ℕ) (k : ℕ) {i : ℕ} (none : i ≡ 0) where
+  pub none_below : is_below nodes k i ≡ false
+  unfolding is_below ◌and◌
+  none_below = rw none
+
+  pub none_at : is_at nodes k i ≡ false
+  unfolding is_at ◌and◌
+  none_at = rw none
+
+  pub none_above : is_above nodes k i ≡ false
+  unfolding is_above ◌and◌
+  none_above = rw none

@@ -1,12 +1,12 @@
--- What holds in the midst of a search, in the code's own terms: what was taken so far is that of some numbers, looks and place are in range, and
+-- What holds in the midst of a search, in the code's own terms: what was taken so far is that of some numbers, looks are in range, and
 -- finishing from here comes to what the whole search comes to. It holds at the header, as the search steps on and as it drops a lane.
 -- Assumes nothing.
-use Prim.Native.Nat.{ℕ, suc, ◌+◌, ◌*◌, ◌≤◌, ◌<◌, ◌^◌}
+use Prim.Native.Nat.{ℕ, suc, ◌+◌, ◌*◌, ◌≤◌, ◌<◌}
 use native.Mathlib.Omega.{arith}
 use mathlib.Core.Path.{◌≡◌, sym, ap, ◌∙◌}
-use mathlib.Core.Bool.{Bool, true, false, not, ◌&&◌}
+use mathlib.Core.Bool.{Bool, true, false}
 use mathlib.Core.List.{List, [], ◌++◌}
-use lib.Dec.{eqb, ltb}
+use borrow.Author.Tests.{lt-ltb, le-ltb}
 use lib.ListN.{length}
 use Rattle.rules.specs.Lists.{only_if}
 use Rattle.rules.specs.NodesLanesEdges.{lanes}
@@ -17,9 +17,11 @@ use Rattle.store.proofs.Between.{between_at_most}
 use Rattle.search.specs.declared.taking.Taken.{Taken}
 use Rattle.search.specs.declared.descent.Found.{Found}
 use Rattle.search.specs.Descent.{most_looks, next_of, is_below, is_above, taken_on_drop, taken_at_end, search_of}
+use Rattle.search.specs.declared.next.Next.{Next}
+use Rattle.search.specs.Next.{IsNext}
 use Rattle.search.specs.Found.{with_taken, taken_of, found_of}
 use Rattle.search.proofs.TakenMarks.{taken_where, untaken_where, taken_after}
-use Rattle.search.proofs.NextNode.{NextRead, tests_below, tests_above}
+use Rattle.search.proofs.NextNode.{tests_below, tests_above, none_below, none_above}
 use Rattle.search.proofs.DescendSteps.{finished, finished_from_header, finished_on, finished_down, finished_short, finished_end}
 
 -- at place i, with the lowest m lanes to go, when t was taken in l looks
@@ -28,7 +30,6 @@ pub record Searching (nodes marks : List ℕ) (k : ℕ) (t : Taken) (l i m : ℕ
   pub taken_are : t ≡ taken_of numbers
   pub few_met : t.met + m * most_marks ≤ lanes * most_marks
   pub few_looks : l ≤ most_looks
-  pub place_fits : i < 2 ^ 32
   pub finish : finished nodes marks k numbers l i m ≡ search_of nodes marks k
 
 abbrev pub found_at : Taken → ℕ → ℕ → Found
@@ -50,13 +51,8 @@ module _ (nodes marks : List ℕ) (k : ℕ) where
         taken_are = e;
         few_met = omega (arith, ap (λ (t : Taken). t.met) e);
         few_looks = omega arith;
-        place_fits = omega arith;
         finish = finished_from_header nodes marks k;
       }
-
-  pub alike : {t u : Taken} {l x i j m n : ℕ} → Searching nodes marks k t l i m → u ≡ t → x ≡ l → j ≡ i → n ≡ m
-      → Searching nodes marks k u x j n
-  alike s p q r e = rw (p, q, r, e) s
 
   -- it drops a lane, and takes what is taken on dropping
   goes_down : {t u : Taken} {l i lane : ℕ} → Searching nodes marks k t l i (suc lane) → l < most_looks → length marks ≤ most_marks
@@ -71,36 +67,39 @@ module _ (nodes marks : List ℕ) (k : ℕ) where
         taken_are = taken_more s.numbers (taken_on_drop nodes marks k i lane) s.taken_are f;
         few_met = omega arith;
         few_looks = omega arith;
-        place_fits = s.place_fits;
         finish = sym (finished_down nodes marks k s.numbers l i lane h e) ∙ s.finish;
       }
 
-  module _ {t : Taken} {l i lane next next_key : ℕ} (s : Searching nodes marks k t l i (suc lane)) (h : l < most_looks)
-      (n : NextRead nodes i lane next next_key) where
-    pub steps_on : next < 2 ^ 32 → not (eqb next 0) && ltb next_key k ≡ true → Searching nodes marks k t (l + 1) next (suc lane)
-    unfolding next_of
-    steps_on fits e =
-        record {
-          numbers = s.numbers;
-          taken_are = s.taken_are;
-          few_met = s.few_met;
-          few_looks = omega arith;
-          place_fits = fits;
-          finish = rw n.link (sym (finished_on nodes marks k s.numbers l i lane h (sym (tests_below n k) ∙ e))) ∙ s.finish;
-        }
-
-    pub drops_taking : {u : Taken} → length marks ≤ most_marks → not (eqb next 0) && ltb next_key k ≡ false
-        → not (eqb next 0) && ltb k next_key ≡ true → u ≡ with_taken t (said_marks nodes marks i (1 + lane))
-        → Searching nodes marks k u (l + 1) i lane
+  module _ {t : Taken} {l i lane : ℕ} (s : Searching nodes marks k t l i (suc lane)) (h : l < most_looks) where
+    -- the lane has no next node
+    pub drops_at_end : length marks ≤ most_marks → next_of nodes i lane ≡ 0 → Searching nodes marks k t (l + 1) i lane
     unfolding taken_on_drop
-    drops_taking room e f g =
-        let slot : 1 + lane ≡ suc lane = omega arith in
-        goes_down s h room (sym (tests_below n k) ∙ e) (taken_where t _ (tests_above n k) f (rw slot at g))
+    drops_at_end room none =
+        goes_down s h room (none_below nodes k none) (untaken_where t (said_marks nodes marks i (suc lane)) (none_above nodes k none))
 
-    pub drops : length marks ≤ most_marks → not (eqb next 0) && ltb next_key k ≡ false → not (eqb next 0) && ltb k next_key ≡ false
-        → Searching nodes marks k t (l + 1) i lane
-    unfolding taken_on_drop
-    drops room e f = goes_down s h room (sym (tests_below n k) ∙ e) (untaken_where t _ (tests_above n k) f)
+    module _ {next : Next} (n : IsNext nodes (next_of nodes i lane) next) where
+      pub steps_on : next.key.0 < k → Searching nodes marks k t (l + 1) next.place (suc lane)
+      steps_on below =
+          record {
+            numbers = s.numbers;
+            taken_are = s.taken_are;
+            few_met = s.few_met;
+            few_looks = omega arith;
+            finish = rw n.place (sym (finished_on nodes marks k s.numbers l i lane h (tests_below n k ∙ lt-ltb _ _ below))) ∙ s.finish;
+          }
+
+      pub drops_taking : {u : Taken} → length marks ≤ most_marks → k < next.key.0 → u ≡ with_taken t (said_marks nodes marks i (1 + lane))
+          → Searching nodes marks k u (l + 1) i lane
+      unfolding taken_on_drop
+      drops_taking room above g =
+          let slot : 1 + lane ≡ suc lane = omega arith in
+          goes_down s h room (tests_below n k ∙ le-ltb _ _ (omega arith)) (taken_where t _ (tests_above n k ∙ lt-ltb _ _ above) (rw slot at g))
+
+      pub drops_at : length marks ≤ most_marks → k ≤ next.key.0 → next.key.0 ≤ k → Searching nodes marks k t (l + 1) i lane
+      unfolding taken_on_drop
+      drops_at room not_below not_above =
+          goes_down s h room (tests_below n k ∙ le-ltb _ _ not_below)
+          (untaken_where t (said_marks nodes marks i (suc lane)) (tests_above n k ∙ le-ltb _ _ not_above))
 
   -- the lanes are done
   pub ends : {t u : Taken} {l i : ℕ} → Searching nodes marks k t l i 0 → u ≡ with_taken t (taken_at_end nodes marks k i)

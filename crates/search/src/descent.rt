@@ -4,7 +4,7 @@ ghost use Rattle.rules.specs.Room.{most_marks};
 ghost use Rattle.search.specs.Descent.{taken_at_end, search_of};
 ghost use Rattle.search.specs.Found.{with_taken, found_of};
 
-use crate::taking;
+use crate::next;
 use crate::taking::Taken;
 use hall::Key;
 
@@ -24,38 +24,30 @@ pub fn search(nodes: &[u32], marks: &[u32], key: Key) -> Found
     requires { length marks.now ≤ most_marks }
     ensures { result ≡ found_of (search_of nodes.now marks.now key.0) }
 {
-    let k = key.0;
-    let mut taken = taking::nothing();
-    let mut looks: u32 = 0;
+    let mut taken = Taken::nothing();
+    let mut looks = 0;
     let mut place = store::HEADER;
-    let mut lanes = store::LANES;
-    'lanes: while 0 < lanes {
-        let lane = lanes - 1;
-        let mut here = place;
-        place = loop {
+    for lane in (0..store::LANES).rev() {
+        loop {
             if MOST_LOOKS <= looks {
-                place = here;
-                break 'lanes;
+                return Found {
+                    taken,
+                    looks,
+                    place,
+                };
             }
             looks += 1;
-            let next = store::node_word(nodes, here, store::LINKS + lane);
-            let next_key = store::node_word(nodes, next, store::KEY);
-            if (next != 0) & (next_key < k) {
-                here = next;
-            } else {
-                if (next != 0) & (k < next_key) {
-                    let more = taking::take_slot(nodes, marks, here, 1 + lane, taken);
-                    taken = more;
+            match next::next_in(nodes, place, lane) {
+                Some(next) if next.key < key => place = next.place,
+                Some(next) if key < next.key => {
+                    taken.take_slot(nodes, marks, place, 1 + lane);
+                    break;
                 }
-                break here;
+                _ => break,
             }
-        };
-        lanes = lane;
+        }
     }
-    if lanes == 0 {
-        let more = take_at_end(nodes, marks, key, place, taken);
-        taken = more;
-    }
+    take_at_end(nodes, marks, key, place, &mut taken);
     Found {
         taken,
         looks,
@@ -64,16 +56,12 @@ pub fn search(nodes: &[u32], marks: &[u32], key: Key) -> Found
 }
 
 // After lane 0: the marks of the next node itself, if it stands at the key.
-fn take_at_end(nodes: &[u32], marks: &[u32], key: Key, place: u32, taken: Taken) -> Taken
-    requires { taken.met + length marks.now < 2 ^ 32 }
-    ensures { result ≡ with_taken taken (taken_at_end nodes.now marks.now key.0 place) }
+fn take_at_end(nodes: &[u32], marks: &[u32], key: Key, place: u32, taken: &mut Taken)
+    requires { taken.old.met + length marks.now < 2 ^ 32 }
+    ensures { taken.new ≡ with_taken taken.old (taken_at_end nodes.now marks.now key.0 place) }
 {
-    let k = key.0;
-    let next = store::node_word(nodes, place, store::LINKS);
-    let next_key = store::node_word(nodes, next, store::KEY);
-    if (next != 0) & (next_key == k) {
-        taking::take_slot(nodes, marks, next, 0, taken)
-    } else {
-        taken
+    match next::next_in(nodes, place, 0) {
+        Some(next) if next.key == key => taken.take_slot(nodes, marks, next.place, 0),
+        _ => {}
     }
 }

@@ -3,6 +3,7 @@
 
 mod descent;
 mod finding;
+mod next;
 mod taking;
 
 pub use descent::{Found, search};

@@ -1,13 +1,16 @@
--- The words past one count, up to another: one word more while there is one, then none, never more than there are; and which they are.
+-- The words past one count, up to another: one word more while there is one, then none, never more than there are, also where the counts are cut to those;
+-- and which they are.
 -- Assumes nothing.
 use Prim.Native.Nat.{ℕ, suc, ◌+◌, ◌-◌, ◌≤◌, ◌<◌, min}
 use native.Mathlib.Nat.{sub-zero}
 use native.Mathlib.Omega.{arith}
 use native.Mathlib.Numerals.{add-one}
-use mathlib.Core.Path.{◌≡◌, refl}
+use mathlib.Core.Path.{◌≡◌, refl, sym, ◌∙◌}
+use mathlib.Core.Logic.{⊎_elim}
 use mathlib.Core.List.{List, [], ◌∷◌, ◌++◌}
-use lib.ListN.{length, get_or, take, length-take, length-drop}
-use lib.Seq.{drop-cons, drop_at, take_at}
+use lib.ListN.{length, get_or, take, drop, length-take, length-drop}
+use lib.Seq.{drop-cons, drop_at, take_at, take_all}
+use Rattle.rules.proofs.Means.{at_most_or_above}
 use Rattle.store.specs.SaidMarks.{between}
 
 none_of : (words : List ℕ) → length words ≡ 0 → words ≡ []
@@ -39,3 +42,25 @@ pub between_at : (words xs ys zs : List ℕ) (from to : ℕ) → words ≡ xs ++
     → between from to words ≡ ys
 unfolding between
 between_at words xs ys zs from to e f t = rw (e, drop_at xs (ys ++ zs) from f) (take_at ys zs (to - from) (omega arith))
+
+-- cut to the words that there are, they are the same
+pub between_in_reach : (from to start end : ℕ) (words : List ℕ) → end ≡ min to (length words) → start ≡ min from end
+    → between start end words ≡ between from to words
+unfolding between
+between_in_reach from to start end words e f =
+    ⊎_elim
+    (λ (h : from ≤ end).
+    let s : start ≡ from = omega arith in
+    ⊎_elim
+    (λ (near : to ≤ length words). let t : end ≡ to = omega arith in rw (s, t))
+    (λ far.
+    let t : end ≡ length words = omega arith in
+    rw (
+      s,
+      t,
+      take_all (length words - from) (drop from words) (simp length-drop (omega arith)),
+      take_all (to - from) (drop from words) (simp length-drop (omega arith)),
+    ))
+    (at_most_or_above to (length words)))
+    (λ past. none_between start end words (omega arith) ∙ sym (none_between from to words (omega arith)))
+    (at_most_or_above from end)

@@ -2,74 +2,48 @@
 -- Assumes nothing.
 use Prim.Native.Nat.{suc, ◌-◌}
 use native.Mathlib.Omega.{arith}
-use mathlib.Core.Path.{◌≡◌, refl, sym}
-use Rattle.search.proofs.Searching.{Searching, begins, alike, steps_on, drops_taking, drops, ends, ends_short}
+use mathlib.Core.Path.{◌≡◌, refl}
+use Rattle.hall.proofs.KeyOrder.{below, not_below}
+use Rattle.search.proofs.Searching.{begins, steps_on, drops_taking, drops_at, drops_at_end, ends, ends_short}
 use Rattle.search.proofs.descent.search.Goals as goal
-use Rattle.search.proofs.descent.search.Goals.{else-lanes-test, then-lanes-test+then-looks-ge-MOST_LOOKS}
 
-pub lanes-init : goal.lanes-init
-lanes-init c = begins _ _ _ c.nothing-taken.ensures
+pub loop-lane-init : goal.loop-lane-init
+loop-lane-init c = begins _ _ _ c.nothing-taken.ensures
 
 pub loop-looks-init : goal.loop-looks-init
-loop-looks-init c = let lane : suc (c.lanes.lanes - 1) ≡ c.lanes.lanes = omega arith in rw lane c.lanes.invariant
+loop-looks-init c = let lane : suc (c.loop-lane.lane - 1) ≡ c.loop-lane.lane = omega arith in rw lane c.loop-lane.invariant
 
 pub loop-looks-preserved : goal.loop-looks-preserved
 loop-looks-preserved c =
-    steps_on _ _ _
-    c.loop-looks.invariant
-    (omega arith)
-    (record { link = c.node_word-next.ensures; key = c.node_word-next_key.ensures })
-    c.node_word-next.type_inv
-    c.if-next-next_key.true
+    steps_on _ _ _ c.loop-looks.invariant (omega arith) c.in-Some.ensures.some (below _ _ c.lt.ensures c.if-lt.true)
 
-pub lanes-preserved-then-next-k : goal.lanes-preserved-then-next-k
-lanes-preserved-then-next-k c =
+pub loop-lane-preserved-in-Some-2 : goal.loop-lane-preserved-in-Some-2
+loop-lane-preserved-in-Some-2 c =
     drops_taking _ _ _
     c.loop-looks.invariant
     (omega arith)
-    (record { link = c.node_word-next.ensures; key = c.node_word-next_key.ensures })
+    c.in-Some.ensures.some
     (omega arith)
-    c.if-next-next_key.false
-    c.if-next-k.true
-    c.take_slot-more.ensures
+    (below _ _ c.if-lt-2.ensures refl)
+    c.take_slot.ensures
 
-pub lanes-preserved : goal.lanes-preserved
-lanes-preserved c =
-    drops _ _ _
+pub loop-lane-preserved-in_default : goal.loop-lane-preserved-in_default
+loop-lane-preserved-in_default c =
+    drops_at _ _ _
     c.loop-looks.invariant
     (omega arith)
-    (record { link = c.node_word-next.ensures; key = c.node_word-next_key.ensures })
+    c.in-Some.ensures.some
     (omega arith)
-    c.if-next-next_key.false
-    c.if-next-k.false
+    (not_below _ _ c.lt.ensures c.if-lt.false)
+    (not_below _ _ c.if-lt-2.ensures refl)
 
-pub take_at_end-more-requires : goal.take_at_end-more-requires
-take_at_end-more-requires c =
-    -- where the lanes are done, finishing from here with no lane to go comes to the whole
-    let done : Searching c.args.nodes.now c.args.marks.now c.args.key.0 c.lanes-test.taken c.lanes-test.looks c.lanes-test.place 0 =
-    elim c.lanes-test.branch [
-      | else-lanes-test w ↦ alike _ _ _ c.lanes.invariant w.taken-is w.looks-is w.place-is (sym c.if-lanes-eq0.true)
-      | then-lanes-test+then-looks-ge-MOST_LOOKS w ↦ absurd (omega arith)
-    ] in
-    omega arith
+pub loop-lane-preserved : goal.loop-lane-preserved
+loop-lane-preserved c =
+    drops_at_end _ _ _ c.loop-looks.invariant (omega arith) (omega arith) (rw c.in_default.is at c.next_in.ensures.none)
 
-pub returns-then-lanes-eq0 : goal.returns-then-lanes-eq0
-returns-then-lanes-eq0 c =
-    let done : Searching c.args.nodes.now c.args.marks.now c.args.key.0 c.lanes-test.taken c.lanes-test.looks c.lanes-test.place 0 =
-    elim c.lanes-test.branch [
-      | else-lanes-test w ↦ alike _ _ _ c.lanes.invariant w.taken-is w.looks-is w.place-is (sym c.if-lanes-eq0.true)
-      | then-lanes-test+then-looks-ge-MOST_LOOKS w ↦ absurd (omega arith)
-    ] in
-    ends _ _ _ done c.take_at_end-more.ensures
+pub returns-then-looks-ge-MOST_LOOKS : goal.returns-then-looks-ge-MOST_LOOKS
+returns-then-looks-ge-MOST_LOOKS c = ends_short _ _ _ c.loop-looks.invariant (omega arith) (omega arith)
 
--- left with lanes to go: no look is left
-pub returns-else-lanes-eq0 : goal.returns-else-lanes-eq0
-returns-else-lanes-eq0 c =
-    elim c.lanes-test.branch [
-      | else-lanes-test w ↦ absurd (c.if-lanes-eq0.false (omega arith))
-      | then-lanes-test+then-looks-ge-MOST_LOOKS w ↦
-          ends_short _ _ _
-          (alike _ _ _ w.loop-looks.invariant w.taken-is w.looks-is w.place-is refl)
-          (omega arith)
-          (omega arith)
-    ]
+pub returns : goal.returns
+returns c =
+    let done : c.loop-lane.lane ≡ 0 = omega arith in ends _ _ _ (rw done at c.loop-lane.invariant) c.take_at_end.ensures

@@ -6,14 +6,10 @@ use Rattle.search.proofs.Searching.{Searching}
 use Rattle.search.proofs.descent.search.Given as goal
 
 abbrev pub invariant-loop-looks : goal.invariant-loop-looks
-invariant-loop-looks l =
-    Searching l.nodes l.marks l.key.0 l.taken l.looks l.here (suc l.lane)
+invariant-loop-looks l = Searching l.nodes l.marks l.key.0 l.taken l.looks l.place (suc l.lane)
 
 abbrev pub decreases-loop-looks : goal.decreases-loop-looks
 decreases-loop-looks l = most_looks - l.looks
 
-abbrev pub invariant-lanes : goal.invariant-lanes
-invariant-lanes l = Searching l.nodes l.marks l.key.0 l.taken l.looks l.place l.lanes
-
-abbrev pub decreases-lanes : goal.decreases-lanes
-decreases-lanes l = l.lanes
+abbrev pub invariant-loop-lane : goal.invariant-loop-lane
+invariant-loop-lane l = Searching l.nodes l.marks l.key.0 l.taken l.looks l.place l.lane

@@ -1,20 +1,22 @@
 -- `search::descent::take_at_end` meets its contract: its test of the next node is the rule's.
 -- Assumes nothing.
-use Rattle.search.specs.Descent.{next_of, taken_at_end}
+use mathlib.Core.Path.{sym, ◌∙◌}
+use borrow.Author.Rules.{rules}
+use Rattle.search.specs.Descent.{taken_at_end}
 use Rattle.search.proofs.TakenMarks.{taken_where, untaken_where}
-use Rattle.search.proofs.NextNode.{NextRead, tests_at}
+use Rattle.search.proofs.NextNode.{tests_at, none_at}
 use Rattle.search.proofs.descent.take_at_end.Goals as goal
 
-pub returns-then-next-next_key : goal.returns-then-next-next_key
-unfolding taken_at_end next_of
-returns-then-next-next_key c =
-    let n : NextRead c.args.nodes.now c.args.place 0 c.node_word-next.result c.node_word-next_key.result =
-    record { link = c.node_word-next.ensures; key = c.node_word-next_key.ensures } in
-    taken_where _ _ (tests_at n _) c.if-next-next_key.true (rw n.link at c.take_slot.ensures)
-
-pub returns-else-next-next_key : goal.returns-else-next-next_key
+pub returns-in-Some : goal.returns-in-Some
 unfolding taken_at_end
-returns-else-next-next_key c =
-    let n : NextRead c.args.nodes.now c.args.place 0 c.node_word-next.result c.node_word-next_key.result =
-    record { link = c.node_word-next.ensures; key = c.node_word-next_key.ensures } in
-    untaken_where _ _ (tests_at n _) c.if-next-next_key.false
+returns-in-Some c =
+    let n = c.in-Some.ensures.some in
+    taken_where _ _ (tests_at n _ ∙ sym c.if-eq.ensures) (rw n.place at c.take_slot.ensures)
+
+pub returns-else-eq : goal.returns-else-eq
+unfolding taken_at_end
+returns-else-eq c = untaken_where _ _ (tests_at c.in-Some.ensures.some _ ∙ sym c.if-eq.ensures)
+
+pub returns : goal.returns
+unfolding taken_at_end
+returns c = untaken_where _ _ (none_at _ _ (search rules))

@@ -9,7 +9,7 @@ use Rattle.search.proofs.taking.marked.Goals as goal
 
 pub take_slot-requires : goal.take_slot-requires
 take_slot-requires c =
-    let none = ap (λ (t : Taken). t.met) c.nothing.ensures in (omega arith, omega arith)
+    let none = ap (λ (t : Taken). t.met) c.nothing-taken.ensures in (omega arith, omega arith)
 
 pub returns : goal.returns
-returns c = c.take_slot.ensures ∙ rw c.nothing.ensures (taken_after [] _)
+returns c = c.take_slot.ensures ∙ rw c.nothing-taken.ensures (taken_after [] _)
