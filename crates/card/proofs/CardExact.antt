@@ -1,15 +1,16 @@
--- What the card's answer means, of any answer that meets the promise: it says 0 exactly where key and card are right, and then a flag stands
--- exactly where a record of that number holds the key, and the count is how many records do; where something is bad flags and count are zero,
--- and what is told is 4 with place 0 of a key above the line, else the fault and the place of the first bad record. Assumes nothing.
+-- What the card's answer means, of any answer that meets the promise: it is Ok exactly where key and card are right, and then a flag stands
+-- exactly where a record of that number holds the key, and the count is how many records do; where something is bad it says no flags and 0 for
+-- the count, and what is told is 4 with place 0 of a key above the line, else the fault and the place of the first bad record. Assumes nothing.
 use Prim.Native.Nat.{ℕ, ◌+◌, ◌≤◌, ◌<◌}
 use native.Mathlib.Omega.{arith}
 use mathlib.Core.Path.{◌≡◌, refl, sym, ap, ◌∙◌}
-use mathlib.Core.Bool.{true}
+use mathlib.Core.Bool.{Bool, false, true}
 use mathlib.Core.Logic.{◌↔◌, ◌⊎◌, inl, inr, ⊎_elim}
 use mathlib.Core.List.{List, [], ◌∷◌, ◌++◌}
 use borrow.Author.Tests.{eqb-true, eqb-false}
 use lib.Dec.{eqb}
 use lib.ListN.{length}
+use Rattle.std.specs.Prelude.{Result, Ok, Err, IsOk, IsErr, is_err}
 use Rattle.rules.specs.Lists.{count_if, member}
 use Rattle.rules.specs.HallLine.{Band, highest_key, holds}
 use Rattle.rules.specs.Flags.{flag_count, flag_at}
@@ -22,9 +23,12 @@ use Rattle.rules.proofs.FirstLine.{ordered_from, Lowest, lowest_given}
 use Rattle.rules.proofs.BoxSaysNo.{BandRight, band_fault_zero}
 use Rattle.rules.proofs.Zeros.{sixteen_zeros, no_flags_zeros}
 use Rattle.rules.proofs.BenchCard.{record_fault_zero, record_fault_of_band, record_fault_twice, CardRight, FirstBad, right_or_bad, card_key_bad, card_first_bad, card_bad_zero, scan_tells, scan_zeros, scan_right, scan_flag, scan_count}
-use Rattle.hall.specs.Says.{answer_says}
+use Rattle.hall.specs.Says.{refusal_says}
+use Rattle.hall.specs.declared.answers.Refusal.{Refusal}
+use Rattle.hall.proofs.OneToOne.{refusal_one_to_one, no_refusal_says_0}
 use Rattle.card.specs.Says.{scan_says}
-use Rattle.card.specs.declared.pass.Scan.{Scan}
+use Rattle.card.specs.declared.pass.Held.{Held}
+use Rattle.card.specs.declared.pass.Wrong.{Wrong}
 
 -- the key is on the line, each record is right by 2 to 6, no number stands twice, and nothing is told but the records that hold the key
 pub record ExactScan (records : List Band) (k : ℕ) (said : RuledScan) : Type 0 where
@@ -132,52 +136,88 @@ module _ (records : List Band) (k : ℕ) where
         count_exact = scan_count records k both.0 both.1;
       }
 
-module _ (records : List Band) (k : ℕ) (r : Scan) (meets : scan_says r ≡ scan_of records k) where
-  pub accepted_where_right : (answer_says r.answer ≡ 0) ↔ ((k ≤ highest_key) × CardRight records)
-  accepted_where_right = rw (ap (λ (s : RuledScan). s.refusal) meets) (accepted records k)
+-- ---- an answer and the number that it says
 
-  pub scan_exact : answer_says r.answer ≡ 0 → ExactScan records k (scan_says r)
-  scan_exact z = rw meets (exact records k (ap (λ (s : RuledScan). s.refusal) (sym meets) ∙ z))
+ok_says_0 : (r : Result Held Wrong) → IsOk r ↔ ((scan_says r).refusal ≡ 0)
+ok_says_0 (Ok h) = (λ ok. refl, λ z. refl)
+ok_says_0 (Err w) = (λ ok. absurd (let never : ◌≡◌ {A = Bool} false true = ok in cc), λ z. absurd (no_refusal_says_0 w.refusal z))
+
+err_says : (r : Result Held Wrong) → IsErr r → (scan_says r).refusal ≡ 0 → ⊥
+err_says (Ok h) err z = let never : ◌≡◌ {A = Bool} false true = err in cc
+err_says (Err w) err z = no_refusal_says_0 w.refusal z
+
+-- any number but 0 is said of something wrong
+wrong_of : (r : Result Held Wrong) → ((scan_says r).refusal ≡ 0 → ⊥) → (w : Wrong) × (r ≡ Err w)
+wrong_of (Ok h) some = absurd (some refl)
+wrong_of (Err w) some = (w, refl)
+
+-- ---- what an answer means that meets the promise
+
+module _ (records : List Band) (k : ℕ) (r : Result Held Wrong) (meets : scan_says r ≡ scan_of records k) where
+  pub accepted_where_right : IsOk r ↔ ((k ≤ highest_key) × CardRight records)
+  accepted_where_right =
+      let number = ap (λ (s : RuledScan). s.refusal) meets in (
+        λ ok. (accepted records k).0 (sym number ∙ (ok_says_0 r).0 ok),
+        λ right. (ok_says_0 r).1 (number ∙ (accepted records k).1 right),
+      )
+
+  pub scan_exact : IsOk r → ExactScan records k (scan_says r)
+  scan_exact ok = rw meets (exact records k (ap (λ (s : RuledScan). s.refusal) (sym meets) ∙ (ok_says_0 r).0 ok))
 
   -- beside something bad the sixteen words of flags are 0, and the count is
-  pub bad_card_zeros : (answer_says r.answer ≡ 0 → ⊥)
-      → (r.flags ≡ sixteen_zeros) × (r.count ≡ 0)
-  bad_card_zeros h =
-      let zeros = scan_zeros records k (λ z. h (ap (λ (s : RuledScan). s.refusal) meets ∙ (scan_tells records k).0 ∙ z)) in
+  pub bad_card_zeros : IsErr r → ((scan_says r).flags ≡ sixteen_zeros) × ((scan_says r).count ≡ 0)
+  bad_card_zeros err =
+      let zeros = scan_zeros records k (λ z. err_says r err (ap (λ (s : RuledScan). s.refusal) meets ∙ (scan_tells records k).0 ∙ z)) in
       (ap (λ (s : RuledScan). s.flags) meets ∙ zeros.0 ∙ no_flags_zeros, ap (λ (s : RuledScan). s.count) meets ∙ zeros.1)
 
   -- the answer tells what the rules find bad
-  told : (w : Bad) → card_bad records k ≡ w → (answer_says r.answer ≡ w.refusal) × (r.place ≡ w.place)
-  told w e = (
-    ap (λ (s : RuledScan). s.refusal) meets ∙ (scan_tells records k).0 ∙ ap (λ (b : Bad). b.refusal) e,
-    ap (λ (s : RuledScan). s.place) meets ∙ (scan_tells records k).1 ∙ ap (λ (b : Bad). b.place) e,
-  )
+  told : (b : Bad) → (b.refusal ≡ 0 → ⊥) → card_bad records k ≡ b
+      → (w : Wrong) × (r ≡ Err w) × (refusal_says w.refusal ≡ b.refusal) × (w.place ≡ b.place)
+  told b some e =
+      let number : (scan_says r).refusal ≡ b.refusal =
+      ap (λ (s : RuledScan). s.refusal) meets ∙ (scan_tells records k).0 ∙ ap (λ (c : Bad). c.refusal) e in
+      let place : (scan_says r).place ≡ b.place =
+      ap (λ (s : RuledScan). s.place) meets ∙ (scan_tells records k).1 ∙ ap (λ (c : Bad). c.place) e in
+      let w = wrong_of r (λ z. some (sym number ∙ z)) in (
+        w.0,
+        w.1,
+        ap (λ s. (scan_says s).refusal) (sym w.1) ∙ number,
+        ap (λ s. (scan_says s).place) (sym w.1) ∙ place,
+      )
 
-  -- a key above the line is told by 4, with place 0, whatever the records
-  pub key_above_told : highest_key < k → (answer_says r.answer ≡ 4) × (r.place ≡ 0)
-  key_above_told above = told (bad 4 0) (card_key_bad records k above)
+  -- a key above the line is told by the refusal of number 4, with place 0, whatever the records
+  pub key_above_told : highest_key < k → r ≡ Err (record { refusal = Refusal.KeyAbove; place = 0 })
+  key_above_told above =
+      let t = told (bad 4 0) (λ z. omega arith) (card_key_bad records k above) in
+      let same = refusal_one_to_one t.0.refusal Refusal.KeyAbove t.2 in
+      t.1 ∙ (λ i. Err (record { refusal = same i; place = t.3 i }))
 
   -- with a key on the line the first bad record is told, by its fault and its place ..
   pub first_bad_record_told : k ≤ highest_key → (fault place : ℕ) → FirstBadRecord records fault place
-      → (answer_says r.answer ≡ fault) × (r.place ≡ place)
+      → (w : Wrong) × (r ≡ Err w) × (refusal_says w.refusal ≡ fault) × (w.place ≡ place)
   unfolding as_ruled
-  first_bad_record_told on_line fault place w =
-      let t = told _ (card_first_bad records k on_line (as_ruled records fault place w)) in
-      (t.0 ∙ (fault_as_ruled w.before w.here fault w.fault_here).0, t.1 ∙ sym w.place_here)
+  first_bad_record_told on_line fault place first =
+      let f = fault_as_ruled first.before first.here fault first.fault_here in
+      let t = told _ (λ z. omega (arith, z, f)) (card_first_bad records k on_line (as_ruled records fault place first)) in
+      (t.0, t.1, t.2 ∙ f.0, t.3 ∙ sym first.place_here)
 
-  -- .. and any number but 0 is told for one of these two
-  pub refusal_explained : (answer_says r.answer ≡ 0 → ⊥)
-      → ((highest_key < k) × (answer_says r.answer ≡ 4) × (r.place ≡ 0))
-      ⊎ ((k ≤ highest_key) × FirstBadRecord records (answer_says r.answer) r.place)
-  refusal_explained h =
+  -- .. and anything wrong is told for one of these two
+  pub refusal_explained : (w : Wrong) → r ≡ Err w
+      → ((highest_key < k) × (refusal_says w.refusal ≡ 4) × (w.place ≡ 0))
+      ⊎ ((k ≤ highest_key) × FirstBadRecord records (refusal_says w.refusal) w.place)
+  refusal_explained w e =
       ⊎_elim
       (λ on_line. inr (on_line, found on_line))
-      (λ above. inl (above, (key_above_told above).0, (key_above_told above).1))
+      (λ above. let same = number_and_place (key_above_told above) in inl (above, same.0, same.1))
       (at_most_or_above k highest_key)
     where
-      found : k ≤ highest_key → FirstBadRecord records (answer_says r.answer) r.place
+      number_and_place : {v : Wrong} → r ≡ Err v → (refusal_says w.refusal ≡ refusal_says v.refusal) × (w.place ≡ v.place)
+      number_and_place f = (ap (λ s. (scan_says s).refusal) (sym e ∙ f), ap (λ s. (scan_says s).place) (sym e ∙ f))
+
+      found : k ≤ highest_key → FirstBadRecord records (refusal_says w.refusal) w.place
       found on_line =
           ⊎_elim
-          (λ right. absurd (h (accepted_where_right.1 (on_line, right.0))))
-          (λ w. let t = told _ (card_first_bad records k on_line w) in rw (t.0, t.1) (in_plain_words records w))
+          (λ right. absurd (err_says r (ap (λ s. is_err s) e) ((ok_says_0 r).0 (accepted_where_right.1 (on_line, right.0)))))
+          (λ first. let t = told _ first.here_bad (card_first_bad records k on_line first) in
+          let n = number_and_place t.1 in rw (n.0 ∙ t.2, n.1 ∙ t.3) (in_plain_words records first))
           (right_or_bad [] records)

@@ -73,7 +73,7 @@ module _ (p : Pass) (place : ℕ) (b : Band) (k : ℕ) where
     unfolding step_of
     step_told h = rw (right, ne_eqb (judge_of p.seen b) 0 h)
 
-pass_wrong : (p : Pass) (place : ℕ) (bs : List Band) (k : ℕ) → (p.refusal ≡ 0 → ⊥) → pass_over p place bs k ≡ p
+pub pass_wrong : (p : Pass) (place : ℕ) (bs : List Band) (k : ℕ) → (p.refusal ≡ 0 → ⊥) → pass_over p place bs k ≡ p
 pass_wrong p place [] k h = refl
 pass_wrong p place (b ∷ bs) k h = rw (step_wrong p place b k h) (pass_wrong p (place + 1) bs k h)
 

@@ -3,11 +3,13 @@
 use Prim.Native.Nat.{ℕ, ◌+◌, ◌≤◌}
 use mathlib.Core.Path.{◌≡◌, sym, ap, ◌∙◌}
 use mathlib.Core.List.{List, ◌∷◌}
+use lib.Count.{ones}
 use lib.ListN.{length, drop, drop_of_length-le}
 use Rattle.rules.specs.HallLine.{Band}
-use Rattle.rules.specs.BenchCard.{scan_of}
-use Rattle.card.specs.Pass.{Pass, begin_of, step_of, pass_over, told_of}
-use Rattle.card.proofs.PassIsScan.{pass_is_scan}
+use Rattle.rules.specs.BoxSaysNo.{no_flags}
+use Rattle.rules.specs.BenchCard.{Scan, scan_of}
+use Rattle.card.specs.Pass.{Pass, bare, begin_of, step_of, pass_over, told_of}
+use Rattle.card.proofs.PassIsScan.{pass_wrong, pass_is_scan}
 
 -- the pass over the first i records leads where the pass over all does
 pub record Leads (cards : List Band) (k : ℕ) (p : Pass) (i : ℕ) : Type 0 where
@@ -34,3 +36,13 @@ module _ (cards : List Band) (k : ℕ) (p : Pass) where
       where
         none_left : pass_over p (i + 1) (drop i cards) k ≡ p
         none_left = ap (λ (bs : List Band). pass_over p (i + 1) bs k) (drop_of_length-le cards over)
+
+-- what is told of something wrong, beside no flags
+abbrev pub wrong : ℕ → ℕ → Scan
+wrong refusal place = record { refusal = refusal; place = place; flags = no_flags; count = 0 }
+
+-- once something is wrong it is told, whatever records are left
+pub wrong_to_scan : (cards : List Band) (k i refusal place : ℕ) → (refusal ≡ 0 → ⊥) → Leads cards k (bare refusal place) i → wrong refusal place ≡ scan_of cards k
+unfolding ones
+wrong_to_scan cards k i refusal place h l =
+    ap told_of (sym (pass_wrong (bare refusal place) (i + 1) (drop i cards) k h) ∙ l.there) ∙ pass_is_scan cards k

@@ -1,20 +1,19 @@
--- The records kept as words: each at its index, the first of them in the first words; and those that are read tell what all of them tell.
+-- The records kept as words: each at its index, the first of them in the first words; and the words taken six by six are the records.
 -- Assumes nothing.
-use Prim.Native.Nat.{ℕ, ◌+◌, ◌*◌, ◌/◌, ◌≤◌, ◌<◌}
-use native.Mathlib.Nat.{zero-add}
+use Prim.Native.Nat.{ℕ, zero, suc, ◌+◌, ◌*◌, ◌/◌, ◌≤◌, ◌<◌}
+use native.Mathlib.Nat.{zero-add, add-zero}
 use native.Mathlib.Omega.{arith}
 use mathlib.Core.Path.{◌≡◌, refl, sym, ap, ◌∙◌}
-use mathlib.Core.Logic.{⊎_elim}
-use mathlib.Core.List.{List}
-use lib.ListN.{length, get_or, take, length-take}
-use lib.Seq.{take_all, get_or-take, ext_get_or}
+use mathlib.Core.List.{List, ◌∷◌, map}
+use lib.ListN.{length, get_or, take, drop, length-take}
+use lib.Seq.{get_or-take, get_or-drop, drop-drop, ext_get_or}
+use Rattle.std.specs.Simd.{first_chunks}
 use Rattle.rules.specs.HallLine.{Band}
-use Rattle.rules.specs.Flags.{flag_count}
 use Rattle.rules.specs.BenchCard.{scan_of}
-use Rattle.rules.proofs.Means.{at_most_or_above}
 use Rattle.rules.proofs.Lists.{made_length, made_at}
 use Rattle.rules.proofs.BenchCard.{enough_records}
-use Rattle.card.specs.Records.{most_records, record_at, records_from, read_count, records_in}
+use Rattle.card.specs.Records.{record_at, record_of, records_from, records_in}
+use Rattle.card.specs.declared.laying.TheConstants.{MOST_RECORDS}
 
 module _ (ws : List ℕ) where
   pub records_length : length (records_in ws) ≡ length ws / 6
@@ -59,25 +58,37 @@ module _ (ws : List ℕ) (m : ℕ) where
       size : length (records_in (take (m * 6) ws)) ≡ m
       size = omega (arith, long, records_length (take (m * 6) ws))
 
--- ---- the records that are read
+-- ---- the words six by six
 
 module _ (ws : List ℕ) where
-  pub count_at_most : read_count ws ≤ most_records
-  unfolding read_count
-  count_at_most = omega arith
+  -- the six words at an index are the record there
+  six_here : (i : ℕ) → record_of (take 6 (drop (i * 6) ws)) ≡ record_at ws i
+  unfolding record_at
+  six_here i =
+      let word : (k : ℕ) → k < 6 → get_or (take 6 (drop (i * 6) ws)) k 0 ≡ get_or ws (i * 6 + k) 0 =
+      λ k h. get_or-take 6 (drop (i * 6) ws) k 0 h ∙ get_or-drop (i * 6) ws k 0 in
+      rw (
+        word 0 (omega arith),
+        word 1 (omega arith),
+        word 2 (omega arith),
+        word 3 (omega arith),
+        word 4 (omega arith),
+        word 5 (omega arith),
+        add-zero,
+      )
 
-  pub count_whole : read_count ws ≤ length ws / 6
-  unfolding read_count
-  count_whole = omega arith
+  chunks_from : (m i : ℕ) → map record_of (first_chunks 6 m (drop (i * 6) ws)) ≡ records_from ws i m
+  chunks_from zero i = refl
+  chunks_from (suc m) i =
+      let further : drop 6 (drop (i * 6) ws) ≡ drop (suc i * 6) ws = drop-drop 6 (i * 6) ws ∙ ap (λ (n : ℕ). drop n ws) (omega arith) in
+      rw (six_here i, further) (ap (λ (bs : List Band). record_at ws i ∷ bs) (chunks_from m (suc i)))
 
-  -- they are all, or more than there are numbers
-  all_or_enough : read_count ws ≤ flag_count → length (records_in ws) ≤ read_count ws
-  unfolding read_count
-  all_or_enough h = omega (arith, records_length ws)
+  pub records_of_chunks : map record_of (first_chunks 6 (length ws / 6) ws) ≡ records_in ws
+  unfolding records_in
+  records_of_chunks = chunks_from (length ws / 6) 0
 
-  pub read_enough : (k : ℕ) → scan_of (take (read_count ws) (records_in ws)) k ≡ scan_of (records_in ws) k
-  read_enough k =
-      ⊎_elim
-      (λ few. ap (λ (bs : List Band). scan_of bs k) (take_all (read_count ws) (records_in ws) (all_or_enough few)))
-      (λ enough. enough_records (records_in ws) (read_count ws) k enough)
-      (at_most_or_above (read_count ws) flag_count)
+-- ---- how many records a card needs room for
+
+-- of any number of records the first so many tell what all tell
+pub most_enough : (records : List Band) (k : ℕ) → scan_of (take MOST_RECORDS records) k ≡ scan_of records k
+most_enough records k = enough_records records MOST_RECORDS k (omega arith)

@@ -1,6 +1,6 @@
 -- The card's records: those of a lent slice of bands, and those kept as words, six to a record: number, scope, low, high, low closed, high closed.
 -- Assumes nothing.
-use Rattle.std.specs.Prelude.{ℕ, zero, suc, ◌+◌, ◌*◌, ◌/◌, min, cond, List, [], ◌∷◌, map, ltb, length, get_or}
+use Rattle.std.specs.Prelude.{ℕ, zero, suc, ◌+◌, ◌*◌, ◌/◌, cond, List, [], ◌∷◌, map, ltb, length, get_or}
 use Rattle.std.proofs.lemmas.List.Edits.{sets}
 use Rattle.rules.specs.Connectives.{one_if, says_yes}
 use Rattle.rules.specs.HallLine.{Band, band_of}
@@ -22,6 +22,10 @@ record_at ws i =
     (says_yes (get_or ws (i * 6 + 4) 0))
     (says_yes (get_or ws (i * 6 + 5) 0))
 
+-- the record of six words alone
+abbrev pub record_of : List ℕ → Band
+record_of six = record_at six 0
+
 -- m records from index i on
 abbrev pub records_from : List ℕ → ℕ → ℕ → List Band
 records_from ws i zero = []
@@ -38,13 +42,3 @@ words_of b = b.number ∷ b.scope ∷ b.low ∷ b.high ∷ one_if b.low_closed �
 -- the words with a record at index i; past the last whole place nothing changes
 unfoldable pub with_record : List ℕ → ℕ → Band → List ℕ
 with_record ws i b = cond (ltb i (length ws / 6)) (sets ws (i * 6) (words_of b)) ws
-
--- ---- how the code reads them: no promise of a public function speaks of these
-
--- the most records that are read of one lent slice of words
-abbrev pub most_records : ℕ
-most_records = 1100
-
--- how many records are read: the whole ones, up to the most
-unfoldable pub read_count : List ℕ → ℕ
-read_count ws = min (length ws / 6) most_records

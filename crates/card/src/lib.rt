@@ -1,10 +1,12 @@
 // The bench card: a plain scan over band records for one key.
 #![tactic(auto)]
 
-mod bands;
+mod kept;
+mod laying;
 mod pass;
-mod words;
+mod scanning;
 
-pub use bands::scan;
-pub use pass::Scan;
-pub use words::{MOST_RECORDS, RECORD_WORDS, lay_record, scan_words};
+pub use kept::RECORD_WORDS;
+pub use laying::{MOST_RECORDS, lay_record};
+pub use pass::{Held, Wrong};
+pub use scanning::{scan, scan_words};
