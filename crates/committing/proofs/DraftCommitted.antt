@@ -158,11 +158,11 @@ module _
           rw (← judged, accepted)
           (ap (leaving 0) (laid ∙ ap (laid_memory (room_in (lent bands nodes marks))) (says_as_before draft_bands drafted draft_nodes completed)))
 
--- the starts by counting from cursors at zero, and how many they are
+-- the starts by counting from cursors at zero
 pub counted_from_zero : (cursors starts bands nodes : List ℕ) → cursors ≡ replicate (length cursors) 0 → starts ≡ starts_by cursors bands nodes
-    → (length starts ≡ length cursors) × (starts ≡ starts_by (replicate (length starts) 0) bands nodes)
+    → starts ≡ starts_by (replicate (length starts) 0) bands nodes
 unfolding starts_by
 counted_from_zero cursors starts bands nodes blank by =
     let from_zeros = by ∙ ap (λ cs. starts_by cs bands nodes) blank in
     let as_many = ap length from_zeros ∙ starts_count (length cursors) (staircases bands nodes) in
-    (as_many, from_zeros ∙ ap (λ k. starts_by (replicate k 0) bands nodes) (sym as_many))
+    from_zeros ∙ ap (λ k. starts_by (replicate k 0) bands nodes) (sym as_many)

@@ -1,7 +1,6 @@
 // A draft judged by 11 and 12, and completed where neither is given: its links, the counts in the header, and its fences.
-ghost use Rattle.std.specs.Prelude.{◌≡◌, true, ◌*◌, ◌≤◌, ◌<◌, length, replicate};
+ghost use Rattle.std.specs.Prelude.{◌≡◌, true, ◌≤◌, length, replicate};
 ghost use Rattle.rules.specs.Room.{room_of, most_nodes, most_marks};
-ghost use Rattle.rules.specs.Staircase.{slots_per_node};
 ghost use Rattle.rules.specs.BoxSaysNo.{fit_refusal};
 ghost use Rattle.rules.specs.SoundMemory.{standing};
 ghost use Rattle.hall.specs.Says.{answer_says};
@@ -20,30 +19,31 @@ pub(crate) fn complete(
     draft_nodes: &mut [u32],
     node_room: usize,
     mark_room: usize,
-    cursors: &mut [u32],
+    cursors: &mut [u32; marking::MOST_CURSORS],
 ) -> Answer
     requires { DraftOf (said_nodes draft_nodes.old) draft_nodes.old
         × (standing (said_by draft_bands.now draft_nodes.old) ≡ true)
         × (node_room ≤ most_nodes)
         × (mark_room ≤ most_marks)
-        × (cursors.old ≡ replicate (length cursors.old) 0)
-        × (most_nodes * slots_per_node < length cursors.old) }
+        × (cursors.old ≡ replicate (length cursors.old) 0) }
     ensures { (answer_says result ≡ fit_refusal (room_of node_room mark_room) (said_by draft_bands.now draft_nodes.old))
         × (answer_says result ≡ 0
         → (draft_nodes.new ≡ laid_nodes draft_words (said_by draft_bands.now draft_nodes.old))
         × (cursors.new ≡ starts_by cursors.old draft_bands.now draft_nodes.new)) }
 {
-    if node_room < store::node_word(draft_nodes, store::HEADER, store::NODES_IN_USE) {
-        return Answer::Refused(Refusal::NodesExceed);
+    let in_use = store::node_word(draft_nodes, store::HEADER, store::NODES_IN_USE);
+    if node_room < in_use as usize {
+        return Err(Refusal::NodesExceed);
     }
     link_laying::lay_links(draft_nodes);
     let sum = marking::count(draft_bands, draft_nodes, mark_room, cursors);
     if mark_room < sum {
-        return Answer::Refused(Refusal::MarksExceed);
+        return Err(Refusal::MarksExceed);
     }
-    store::put_node_word(draft_nodes, store::HEADER, store::LANE_COUNT, store::LANES);
-    store::put_node_word(draft_nodes, store::HEADER, store::MARKS_IN_USE, sum);
+    let lanes = store::LANES as u32;
+    store::put_node_word(draft_nodes, store::HEADER, store::LANE_COUNT, lanes);
+    store::put_node_word(draft_nodes, store::HEADER, store::MARKS_IN_USE, sum as u32);
     marking::to_starts(cursors);
     fence_laying::lay_fences(draft_nodes, cursors);
-    Answer::Done
+    Ok(())
 }

@@ -1,17 +1,15 @@
 // A drafted profile judged, and laid into the lent memory where 11 and 12 are not given.
-ghost use Rattle.std.specs.Prelude.{◌≡◌, true, ◌*◌, ◌<◌, length, replicate};
+ghost use Rattle.std.specs.Prelude.{◌≡◌, true, length, replicate};
 ghost use Rattle.rules.specs.Profile.{Profile};
-ghost use Rattle.rules.specs.Room.{most_nodes};
-ghost use Rattle.rules.specs.Staircase.{slots_per_node};
-ghost use Rattle.rules.specs.SoundMemory.{standing, sound_in};
+ghost use Rattle.rules.specs.SoundMemory.{sound_in};
 ghost use Rattle.store.specs.Sizes.{sizes_right};
 ghost use Rattle.store.specs.Memory.{lent, lengths_in, room_in};
-ghost use Rattle.store.specs.SaidProfile.{said_bands, said_nodes, said_by};
+ghost use Rattle.store.specs.SaidProfile.{said_bands, said_by};
 ghost use Rattle.store.specs.LaidBands.{laid_bands};
 ghost use Rattle.store.specs.LaidNodes.{laid_nodes};
 ghost use Rattle.store.specs.LaidMemory.{laid_memory};
 ghost use Rattle.store.specs.Came.{came};
-ghost use Rattle.drafting.specs.NodeDraft.{draft_words, DraftOf};
+ghost use Rattle.drafting.specs.NodeDraft.{draft_words};
 ghost use Rattle.drafting.specs.Drafts.{Drafts};
 ghost use Rattle.committing.specs.Committed.{committed, starts_by};
 
@@ -22,7 +20,7 @@ use hall::Answer;
 fn lay_draft(
     draft_bands: &[u32],
     draft_nodes: &[u32],
-    starts: &mut [u32],
+    starts: &mut [u32; marking::MOST_CURSORS],
     bands: &mut [u32],
     nodes: &mut [u32],
     marks: &mut [u32],
@@ -31,8 +29,7 @@ fn lay_draft(
         × (sound_in (room_in (lent bands.old nodes.old marks.old)) (said_by draft_bands.now draft_nodes.now) ≡ true)
         × (draft_bands.now ≡ laid_bands (said_bands draft_bands.now))
         × (draft_nodes.now ≡ laid_nodes draft_words (said_by draft_bands.now draft_nodes.now))
-        × (starts.old ≡ starts_by (replicate (length starts.old) 0) draft_bands.now draft_nodes.now)
-        × (most_nodes * slots_per_node < length starts.old) }
+        × (starts.old ≡ starts_by (replicate (length starts.old) 0) draft_bands.now draft_nodes.now) }
     ensures { lent bands.new nodes.new marks.new
         ≡ laid_memory (room_in (lent bands.old nodes.old marks.old)) (said_by draft_bands.now draft_nodes.now) }
 {
@@ -42,35 +39,8 @@ fn lay_draft(
     marking::lay(draft_bands, draft_nodes, starts, marks);
 }
 
-// Judges the draft and lays it, with words to count in. No word of the memory is written before 11 and 12 are judged: `complete` is lent none of it.
-fn commit_with(
-    draft_bands: &[u32],
-    draft_nodes: &mut [u32],
-    cursors: &mut [u32],
-    bands: &mut [u32],
-    nodes: &mut [u32],
-    marks: &mut [u32],
-) -> Answer
-    requires { (sizes_right (lengths_in (lent bands.old nodes.old marks.old)) ≡ true)
-        × (draft_bands.now ≡ laid_bands (said_bands draft_bands.now))
-        × DraftOf (said_nodes draft_nodes.old) draft_nodes.old
-        × (standing (said_by draft_bands.now draft_nodes.old) ≡ true)
-        × (cursors.old ≡ replicate (length cursors.old) 0)
-        × (most_nodes * slots_per_node < length cursors.old) }
-    ensures { came result bands.new nodes.new marks.new
-        ≡ committed (lent bands.old nodes.old marks.old) (said_by draft_bands.now draft_nodes.old) }
-{
-    let node_room = nodes.len() / store::NODE_PLACE_WORDS - 1;
-    match completing::complete(draft_bands, draft_nodes, node_room, marks.len(), cursors) {
-        Answer::Refused(refusal) => Answer::Refused(refusal),
-        Answer::Done => {
-            lay_draft(draft_bands, draft_nodes, cursors, bands, nodes, marks);
-            Answer::Done
-        }
-    }
-}
-
-// Judges the profile that is drafted by 11 and 12, and lays it where neither is given; refused, the memory is as it was.
+// Judges the profile that is drafted by 11 and 12, and lays it where neither is given; refused, the memory is as it was: no word of it is written
+// before 11 and 12 are judged, since `complete` is lent none of it.
 pub fn commit(
     draft_bands: &[u32],
     draft_nodes: &mut [u32],
@@ -85,5 +55,14 @@ pub fn commit(
         ≡ committed (lent bands.old nodes.old marks.old) p }
 {
     let mut cursors = [0u32; marking::MOST_CURSORS];
-    commit_with(draft_bands, draft_nodes, &mut cursors, bands, nodes, marks)
+    let node_room = nodes.len() / store::NODE_PLACE_WORDS - 1;
+    completing::complete(
+        draft_bands,
+        draft_nodes,
+        node_room,
+        marks.len(),
+        &mut cursors,
+    )?;
+    lay_draft(draft_bands, draft_nodes, &mut cursors, bands, nodes, marks);
+    Ok(())
 }

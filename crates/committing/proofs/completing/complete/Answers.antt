@@ -15,12 +15,12 @@ use Rattle.committing.proofs.LinkedDraft.{in_use_kept}
 use Rattle.committing.proofs.DraftLaid.{same_in_use, sum_above, sum_within, counts_within, draft_done}
 use Rattle.committing.proofs.completing.complete.Goals as goal
 
-pub returns-then-node_room-node_word : goal.returns-then-node_room-node_word
-returns-then-node_room-node_word c =
+pub returns-then-node_room-in_use : goal.returns-then-node_room-in_use
+returns-then-node_room-in_use c =
     let args = c.args in
     let draft = args.draft_nodes.now in
-    let read = c.node_word.ensures in
-    let over = c.if-node_room-node_word.true in (
+    let read = c.node_word-in_use.ensures in
+    let over = c.if-node_room-in_use.true in (
       by_11 (room_of args.node_room args.mark_room) (said_by args.draft_bands.now draft) (omega (arith, said_nodes_length draft)),
       λ e. absurd (omega arith),
     )

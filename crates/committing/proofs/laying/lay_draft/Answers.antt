@@ -1,5 +1,6 @@
 -- `committing::laying::lay_draft` meets its contract: what is copied and laid is the one memory of the profile that the draft says.
 -- Assumes nothing.
+use native.Mathlib.Omega.{arith}
 use borrow.Author.Rules.{rules}
 use Rattle.store.proofs.RightSizes.{sizes_in_numbers}
 use Rattle.committing.proofs.DraftCommitted.{drafted_within, draft_laid_lem}
@@ -14,5 +15,5 @@ lay-requires c =
 pub returns : goal.returns
 returns c =
     let pre = c.requires in
-    draft_laid_lem _ _ _ _ _ pre.0 pre.1 pre.2 pre.3 _ _ _ _ _ _ pre.4 pre.5
+    draft_laid_lem _ _ _ _ _ pre.0 pre.1 pre.2 pre.3 _ _ _ _ _ _ pre.4 (omega arith)
     c.copy.ensures c.copy-2.ensures c.clear.ensures c.lay.ensures

@@ -5,20 +5,11 @@ use Rattle.committing.proofs.LinkLaying.{no_lane_laid, one_more_lane_laid, all_l
 use Rattle.committing.proofs.link_laying.put_links.Goals as goal
 
 pub loop-lane-init : goal.loop-lane-init
-loop-lane-init c = (omega arith, no_lane_laid _ _ _ _)
+loop-lane-init c = no_lane_laid _ _ _ _
 
 pub loop-lane-preserved : goal.loop-lane-preserved
-loop-lane-preserved c = (
-  omega arith,
-  one_more_lane_laid _ _ _ _ _ _ _ _ _
-      (omega arith)
-      c.link_due.ensures.0
-      c.put_node_word.ensures
-      c.loop-lane.invariant.1,
-)
-
-pub shape_of-draft : goal.shape_of-draft
-shape_of-draft c = c.loop-lane.invariant.1.size
+loop-lane-preserved c =
+    one_more_lane_laid _ _ _ _ _ _ _ _ _ (omega arith) c.link_due-link.ensures c.put_node_word.ensures c.loop-lane.invariant
 
 pub returns : goal.returns
-returns c = all_lanes_laid _ _ _ _ _ _ _ (omega arith) c.loop-lane.invariant.1
+returns c = all_lanes_laid _ _ _ _ _ _ _ (omega arith) c.loop-lane.invariant
