@@ -5,7 +5,7 @@ use mathlib.Core.Path.{◌≡◌, ◌∙◌}
 use mathlib.Core.Bool.{Bool, ◌&&◌}
 use mathlib.Core.List.{List}
 use native.Mathlib.Omega.{arith}
-use lib.ListN.{length, replicate}
+use lib.ListN.{replicate}
 use Rattle.rules.specs.Connectives.{says_yes}
 use Rattle.rules.specs.Lists.{all, all_from, member}
 use Rattle.rules.proofs.Connectives.{both}
@@ -21,13 +21,11 @@ unfolding all_noted
 all_found n m is l = all_from_same 1 m (λ i a b. found_alone n i is (omega arith))
 
 -- so the test by what is noted is the one of the ends and the nodes
-pub matched_by_notes : (bands nodes : List ℕ) {old found : List ℕ} {placed every_noted : Bool} {used : ℕ}
-    → old ≡ replicate (length old) 0
-    → in_use nodes < length old
+pub matched_by_notes : (bands nodes : List ℕ) (n : ℕ) {found : List ℕ} {placed every_noted : Bool} {used : ℕ}
+    → in_use nodes < n
     → used ≡ in_use nodes
-    → (placed ≡ all says_yes (end_places bands nodes)) × (found ≡ noted old (end_places bands nodes))
+    → (placed ≡ all says_yes (end_places bands nodes)) × (found ≡ noted (replicate n 0) (end_places bands nodes))
     → every_noted ≡ all_noted found used
     → placed && every_noted ≡ ends_match bands nodes
 unfolding ends_match
-matched_by_notes bands nodes {old} z h u p a =
-    both p.0 (a ∙ rw (u, p.1, z) (all_found (length old) (in_use nodes) (end_places bands nodes) h))
+matched_by_notes bands nodes n h u p a = both p.0 (a ∙ rw (u, p.1) (all_found n (in_use nodes) (end_places bands nodes) h))

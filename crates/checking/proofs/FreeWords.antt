@@ -1,38 +1,51 @@
 -- Free words: what the test of zeros means word by word, and how it goes from one word to the next.
 -- Assumes nothing.
 use Prim.Native.Nat.{ℕ, zero, suc, ◌+◌, ◌-◌, ◌≤◌, ◌<◌, min}
-use mathlib.Core.Path.{◌≡◌, refl, subst}
-use mathlib.Core.Bool.{true, false}
+use mathlib.Core.Path.{◌≡◌, refl, sym, subst}
+use mathlib.Core.Bool.{true}
 use mathlib.Core.Logic.{⊎_elim}
 use mathlib.Core.List.{List}
 use native.Mathlib.Nat.{eq-or-lt_of_le}
 use native.Mathlib.Omega.{arith}
-use borrow.Author.Tests.{eq-eqb, ne_eqb}
 use lib.Dec.{eqb}
-use lib.ListN.{length, get_or, get_or-eq_default}
+use lib.ListN.{length, get_or, get_or-eq_default, drop, length-drop}
+use Rattle.std.proofs.lemmas.List.{take_min}
+use Rattle.checking.proofs.AllOf.{all_are}
+use Rattle.std.specs.List.{list_all, slice_range}
+use Rattle.store.specs.SaidMarks.{between}
 use Rattle.rules.specs.Connectives.{◌and◌}
-use Rattle.rules.proofs.Means.{Means, reworded, and_means, eq_means}
+use Rattle.rules.proofs.Means.{Means, reworded, and_means, eq_means, at_most_or_above}
 use Rattle.store.proofs.Between.{next_between, none_between}
 use Rattle.checking.specs.Zeros.{zeros_between}
 
-module _ (from to : ℕ) (words : List ℕ) where
-  -- one word, and then those after it
-  zeros_next : from < min to (length words) → zeros_between from to words ≡ eqb (get_or words from 0) 0 and zeros_between (from + 1) to words
-  unfolding zeros_between
-  zeros_next h = rw (next_between from to words h)
+-- one word, and then those after it
+zeros_next : (from to : ℕ) (words : List ℕ) → from < min to (length words)
+    → zeros_between from to words ≡ eqb (get_or words from 0) 0 and zeros_between (from + 1) to words
+unfolding zeros_between
+zeros_next from to words h = rw (next_between from to words h)
 
-  -- as a loop goes through the words: stopped by one that is not 0, on after one that is, and done where no word is left
-  pub zeros_stopped : from < min to (length words) → (get_or words from 0 ≡ 0 → ⊥) → zeros_between from to words ≡ false
-  unfolding ◌and◌
-  zeros_stopped h e = rw (zeros_next h, ne_eqb (get_or words from 0) 0 e)
+-- done where no word is left
+zeros_done : (from to : ℕ) (words : List ℕ) → min to (length words) ≤ from → zeros_between from to words ≡ true
+unfolding zeros_between
+zeros_done from to words h = rw (none_between from to words h)
 
-  pub zeros_onward : from < min to (length words) → get_or words from 0 ≡ 0 → zeros_between from to words ≡ zeros_between (from + 1) to words
-  unfolding ◌and◌
-  zeros_onward h e = rw (zeros_next h, eq-eqb (get_or words from 0) 0 e)
+-- the words as the code has them: where it ends, and where it starts, it stays within those that there are
+among : (from to : ℕ) (words : List ℕ) {start end : ℕ} → end ≡ min to (length words) → start ≡ min from end
+    → slice_range words start end ≡ between from to words
+unfolding between
+among from to words {start} {end} e s =
+    ⊎_elim
+    (λ past. let none : end - start ≡ 0 = omega arith in rw none (sym (none_between from to words (omega arith))))
+    (λ (before : from < end).
+    let first : start ≡ from = omega arith in
+    let left : end - start ≡ min (to - from) (length (drop from words)) = simp length-drop (omega arith) in
+    rw (left, first) (take_min (to - from) (drop from words)))
+    (at_most_or_above end from)
 
-  pub zeros_done : min to (length words) ≤ from → zeros_between from to words ≡ true
-  unfolding zeros_between
-  zeros_done h = rw (none_between from to words h)
+pub zeros_among : (from to : ℕ) (words : List ℕ) {start end : ℕ} → end ≡ min to (length words) → start ≡ min from end
+    → list_all (λ w. eqb w 0) (slice_range words start end) ≡ zeros_between from to words
+unfolding zeros_between
+zeros_among from to words e s = rw (among from to words e s) (all_are _ _)
 
 -- each word from one index up to another is 0
 abbrev AllZero : ℕ → ℕ → List ℕ → Type 0

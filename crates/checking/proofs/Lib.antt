@@ -11,7 +11,13 @@
 --   CheckExact     what its answer means, and that memory is as it was
 --   Settled        no second outcome meets its promise
 --   Promise        that promise, by name
--- As the code goes through them: EndSteps, LinkSteps, MarkSteps, and TestsInOrder of all.
+-- As the code goes through them:
+--   Joined         tests joined by the first of them
+--   AllOf          what `all` answers over a range, and over words
+--   EndSteps, LinkSteps, MarkSteps
+--   WithinMost     nodes and marks within the most, once sizes and node places have passed
+pub mod Joined
+pub mod AllOf
 pub mod FreeWords
 pub mod BandPlaces
 pub mod NodePlaces
@@ -26,4 +32,4 @@ pub mod Settled
 pub mod EndSteps
 pub mod LinkSteps
 pub mod MarkSteps
-pub mod TestsInOrder
+pub mod WithinMost

@@ -13,8 +13,9 @@ use Rattle.rules.specs.Lists.{all_from}
 use Rattle.rules.specs.NodesLanesEdges.{lanes}
 use Rattle.rules.proofs.Lists.{all_from_same, all_from_last}
 use Rattle.rules.proofs.Means.{false_and, and_true}
-use Rattle.store.specs.Places.{header, in_use}
+use Rattle.store.specs.Places.{node_field, level_field, header, in_use}
 use Rattle.linking.specs.LinksDue.{linked_lanes, link_due_at}
+use Rattle.linking.proofs.NextPlaces.{node_lanes}
 use Rattle.linking.proofs.PlacesAhead.{Ahead}
 use Rattle.checking.specs.Links.{link_right, place_links_right, links_right, link_by_ahead, links_due}
 
@@ -39,15 +40,24 @@ module _ (nodes : List ℕ) where
   unfolding links_up_to links_right
   all_links place e = ap links_up_to e
 
-  pub links_stopped : (place : ℕ) → place_links_right nodes place ≡ false → links_up_to place ≡ false
-  links_stopped place e = up_to_last place ∙ false_and _ _ (inr e)
+  -- a node's links, tested by the first places ahead: where they fail so do those up to it, and where they pass those before it are left
+  module _ (place : ℕ) (h : 0 < place) {level : ℕ} {ahead : List ℕ} {answer : Bool} (known : level ≡ node_field nodes place level_field)
+      (a : Ahead nodes place ahead) (says : answer ≡ links_due nodes place level ahead) where
+    node_tested : answer ≡ place_links_right nodes place
+    node_tested = says ∙ links_by_ahead place level ahead (known ∙ sym (node_lanes nodes place h)) a
 
-  pub links_onward : (place : ℕ) → 0 < place → place_links_right nodes place ≡ true → links_up_to place ≡ links_up_to (place - 1)
-  unfolding links_up_to
-  links_onward place h e =
-      let passed = all_from (place_links_right nodes) 0 place in
-      let less : place ≡ suc (place - 1) = omega arith in
-      up_to_last place ∙ ap (λ t. passed and t) e ∙ and_true passed ∙ ap (all_from (place_links_right nodes) 0) less
+    pub links_stopped : answer ≡ false → links_up_to place ≡ false
+    links_stopped e = up_to_last place ∙ false_and _ _ (inr (sym node_tested ∙ e))
+
+    pub links_onward : answer ≡ true → links_up_to place ≡ links_up_to (place - 1)
+    unfolding links_up_to
+    links_onward e =
+        let passed = all_from (place_links_right nodes) 0 place in
+        let less : place ≡ suc (place - 1) = omega arith in
+        up_to_last place
+        ∙ ap (λ t. passed and t) (sym node_tested ∙ e)
+        ∙ and_true passed
+        ∙ ap (all_from (place_links_right nodes) 0) less
 
   pub links_at_header : (place : ℕ) (ahead : List ℕ) → place ≤ 0 → Ahead nodes place ahead
       → links_due nodes header lanes ahead ≡ links_up_to place

@@ -153,3 +153,7 @@ module _ (m : Memory) where
 
   pub tested_is_sound : tested m ≡ sound m
   tested_is_sound = same_means (tested_means m.bands m.nodes m.marks) (sound_means m) passed_is_sound sound_is_passed
+
+-- so what the tests told is what `sound` tells
+pub sound_as_tested : (m : Memory) → sound m ≡ tested m
+sound_as_tested m = sym (tested_is_sound m)

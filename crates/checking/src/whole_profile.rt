@@ -13,16 +13,8 @@ pub fn check(bands: &[u32], nodes: &[u32], marks: &[u32]) -> bool
     ensures { asked result bands.exit.now nodes.exit.now marks.exit.now
         ≡ telling sound (lent bands.entry.now nodes.entry.now marks.entry.now) }
 {
-    if !store::sizes_right(bands, nodes, marks) {
-        return false;
-    }
-    let places = band_places::band_places_right(bands) & node_places::node_places_right(nodes);
-    if !places {
-        return false;
-    }
-    let ends_and_links = ends::ends_match(bands, nodes) & links::links_right(nodes);
-    if !ends_and_links {
-        return false;
-    }
-    mark_places::marks_right(bands, nodes, marks)
+    store::sizes_right(bands, nodes, marks)
+        && (band_places::band_places_right(bands) && node_places::node_places_right(nodes))
+        && (ends::ends_match(bands, nodes) && links::links_right(nodes))
+        && mark_places::marks_right(bands, nodes, marks)
 }

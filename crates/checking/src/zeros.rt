@@ -6,13 +6,7 @@ ghost use Rattle.checking.specs.Zeros.{zeros_between};
 pub(crate) fn zeros_between(words: &[u32], from: usize, to: usize) -> bool
     ensures { result ≡ zeros_between from to words.now }
 {
-    let end = if to < words.len() { to } else { words.len() };
-    let mut at = from;
-    while at < end {
-        if words[at] != 0 {
-            return false;
-        }
-        at += 1;
-    }
-    true
+    let end = to.min(words.len());
+    let start = from.min(end);
+    words[start..end].iter().all(|&word| word == 0)
 }

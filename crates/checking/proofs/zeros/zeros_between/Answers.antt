@@ -1,23 +1,12 @@
--- `checking::zeros::zeros_between` meets its contract. The loop's invariant: the test from here equals the test from the start.
+-- `checking::zeros::zeros_between` meets its contract.
 -- Assumes nothing.
-use native.Mathlib.Omega.{arith}
-use mathlib.Core.Path.{refl, sym, ◌∙◌}
-use Rattle.checking.proofs.FreeWords.{zeros_stopped, zeros_onward, zeros_done}
+use Rattle.std.proofs.Common.{rules, ◌∙◌, eqb}
+use Rattle.std.proofs.lemmas.Iterator.{YieldsList-from_slice}
+use Rattle.std.proofs.lemmas.Iterator.Search.{all_from_yields_List}
+use Rattle.checking.proofs.FreeWords.{zeros_among}
 use Rattle.checking.proofs.zeros.zeros_between.Goals as goal
-use Rattle.checking.proofs.zeros.zeros_between.Goals.{then-to-words, else-to-words}
-
-pub loop-at-init : goal.loop-at-init
-loop-at-init c = (elim c.if-to-words.branch [ then-to-words w ↦ omega arith | else-to-words w ↦ omega arith ], refl)
-
-pub returns-then-words-at-ne0 : goal.returns-then-words-at-ne0
-returns-then-words-at-ne0 c =
-    sym (zeros_stopped _ _ _ (omega arith) c.if-words-at-ne0.true) ∙ c.loop-at.invariant.1
-
-pub loop-at-preserved : goal.loop-at-preserved
-loop-at-preserved c = (
-  c.loop-at.invariant.0,
-  sym (zeros_onward _ _ _ (omega arith) c.if-words-at-ne0.false) ∙ c.loop-at.invariant.1,
-)
 
 pub returns : goal.returns
-returns c = sym (zeros_done _ _ _ (omega arith)) ∙ c.loop-at.invariant.1
+returns c =
+    all_from_yields_List (λ w. eqb w 0) _ _ _ c.all.ensures.ran (YieldsList-from_slice _ c.iter.ensures.rest) (λ x b q k. search rules)
+    ∙ zeros_among c.args.from c.args.to c.args.words.now c.min-end.ensures c.min-start.ensures
