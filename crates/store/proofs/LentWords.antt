@@ -1,61 +1,60 @@
 -- What a call that is lent memory is given, as promises speak of it: the three slices, and what else; and how a slice lent by `&` is seen at the end.
 -- For the laws of whatever meets a promise.
 -- Assumes nothing.
-use Prim.Native.Nat.{ℕ}
 use mathlib.Core.Path.{◌≡◌, refl}
-use mathlib.Core.List.{List}
 use mir.Syntax.{Lifetime}
 use base.Fml.{Lft}
 use denote.Exit.{Kept, Last, see}
 use denote.RattleType.{RattleType}
-use denote.Bor.{Bor}
 use denote.MutBor.{MutBor}
 use denote.Slice.{ShrSlice}
 use Rattle.std.specs.Prelude.{Result}
 use Rattle.rules.specs.BoxSaysNo.{Change}
 use Rattle.hall.specs.declared.answers.Refusal.{Refusal}
-use Rattle.store.specs.Memory.{Memory, lent}
+use Rattle.store.specs.Memory.{Memory}
+use Rattle.store.specs.LentMemory.{words_in, words_in_mut}
+use Rattle.store.specs.declared.memory.Memory.{Memory as LentToAsk}
+use Rattle.store.specs.declared.memory.MemoryMut.{MemoryMut as LentMut}
 use Rattle.store.specs.Came.{came, Asked, asked}
 
--- the three slices, lent by references of one kind, and what else a call is given
-abbrev pub LentBy : Type 0 → Type 0 → Type 0
-LentBy R A = R × (R × (R × A))
-
--- what a call that asks is given: its slices are lent by `&` ..
+-- what a call that asks is given: the memory, lent to be asked ..
 abbrev pub Lent : Type 0 → Type 0
-Lent A = LentBy (Bor (List ℕ)) A
+Lent A = LentToAsk × A
 
--- .. and what a call that changes is: by `&mut`
+-- .. and what a call that changes is: the memory, lent to be changed, by `&mut`
 abbrev pub LentToChange : Type 0 → Type 0
-LentToChange A = LentBy (MutBor (List ℕ)) A
+LentToChange A = MutBor LentMut × A
 
 -- what else
-abbrev pub also_given : {R A : Type 0} → LentBy R A → A
-also_given x = x.1.1.1
+abbrev pub also_given : {R A : Type 0} → R × A → A
+also_given x = x.1
 
 -- the memory that the slices are
 abbrev pub lent_memory : {A : Type 0} → Lent A → Memory
-lent_memory x = lent x.0.now x.1.0.now x.1.1.0.now
+lent_memory x = words_in x.0
 
 abbrev pub memory_to_change : {A : Type 0} → LentToChange A → Memory
-memory_to_change x = lent x.0.now x.1.0.now x.1.1.0.now
+memory_to_change x = words_in_mut x.0.now
 
 -- what comes of a call that changes, and of one that asks: a is answered, or told, and the words of x stand after it
 abbrev pub came_with : {A : Type 0} → Result Unit Refusal → Lent A → Change Memory
-came_with a x = came a x.0.now x.1.0.now x.1.1.0.now
+came_with a x = came a (lent_memory x)
 
 abbrev pub came_of_change : {A : Type 0} → Result Unit Refusal → LentToChange A → Change Memory
-came_of_change a x = came a x.0.now x.1.0.now x.1.1.0.now
+came_of_change a x = came a (memory_to_change x)
 
 abbrev pub asked_with : {A B : Type 0} → A → Lent B → Asked A
-asked_with a x = asked a x.0.now x.1.0.now x.1.1.0.now
+asked_with a x = asked a (lent_memory x)
 
 -- the words in all three are the same
+abbrev pub SameThree : Memory → Memory → Type 0
+SameThree m w = (m.bands ≡ w.bands) × (m.nodes ≡ w.nodes) × (m.marks ≡ w.marks)
+
 abbrev pub SameWords : {A : Type 0} → Lent A → Lent A → Type 0
-SameWords x y = (x.0.now ≡ y.0.now) × (x.1.0.now ≡ y.1.0.now) × (x.1.1.0.now ≡ y.1.1.0.now)
+SameWords x y = SameThree (lent_memory x) (lent_memory y)
 
 abbrev pub SameWordsLeft : {A : Type 0} → LentToChange A → LentToChange A → Type 0
-SameWordsLeft x y = (x.0.now ≡ y.0.now) × (x.1.0.now ≡ y.1.0.now) × (x.1.1.0.now ≡ y.1.1.0.now)
+SameWordsLeft x y = SameThree (memory_to_change x) (memory_to_change y)
 
 -- how the kit reads a slice that is lent by `&`: when the call ends it is seen as it was passed, as one value. So that it then stands as it was holds of
 -- every function that is lent it so, and that none writes it is the kit's own law of what such a slice owns

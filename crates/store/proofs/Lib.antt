@@ -29,7 +29,7 @@
 pub mod Copied
 pub mod NodeFields
 pub mod RightSizes
-pub mod Memory
+pub mod SameMemory
 pub mod SaidBands
 pub mod SaidNodes
 pub mod Between

@@ -1,15 +1,14 @@
 -- A call that only asks, by its promise: it is met by telling what is due and leaving memory as it was, and by nothing else. Of two outcomes that meet it
 -- what is told is the same, and all three slices are, which are those that were lent.
 -- Assumes nothing.
-use Prim.Native.Nat.{ℕ}
 use mathlib.Core.Path.{◌≡◌, sym, ◌∙◌, ap}
-use mathlib.Core.List.{List}
+use Rattle.store.specs.Memory.{Memory}
 use Rattle.store.specs.Came.{asked}
 use Rattle.store.proofs.LentWords.{Lent, asked_with, SameWords}
 
 -- what is due is told, and memory is as it was
-pub left_as_it_was : {A : Type 0} {a due : A} {bands nodes marks : List ℕ} → a ≡ due → asked a bands nodes marks ≡ asked due bands nodes marks
-left_as_it_was {bands = bands} {nodes = nodes} {marks = marks} e = ap (λ told. asked told bands nodes marks) e
+pub left_as_it_was : {A : Type 0} {a due : A} {after : Memory} → a ≡ due → asked a after ≡ asked due after
+left_as_it_was {after = after} e = ap (λ told. asked told after) e
 
 module _ {A B : Type 0} (given x : Lent B) {a due : A} (met : asked_with a x ≡ asked_with due given) where
   pub what_was_told : a ≡ due

@@ -14,7 +14,7 @@ use Rattle.store.specs.Memory.{Memory, lengths_in, room_in}
 use Rattle.store.specs.SaidProfile.{said_profile}
 use Rattle.store.specs.LaidMemory.{laid_memory}
 use Rattle.store.specs.Sound.{sound}
-use Rattle.store.proofs.Memory.{same_memory_means}
+use Rattle.store.proofs.SameMemory.{same_memory_means}
 
 pub record Sound (m : Memory) : Type 0 where
   pub sizes : sizes_right (lengths_in m) ≡ true

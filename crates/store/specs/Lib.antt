@@ -3,6 +3,7 @@
 pub mod Words
 pub mod Sizes
 pub mod Memory
+pub mod LentMemory
 pub mod Places
 pub mod HasFields
 pub mod SaidProfile

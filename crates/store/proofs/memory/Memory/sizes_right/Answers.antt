@@ -1,4 +1,4 @@
--- `store::sizes::sizes_right` meets its contract: its tests are those of the sizes, joined otherwise.
+-- `store::Memory::sizes_right` meets its contract: its tests are those of the sizes, joined otherwise.
 -- Assumes nothing.
 use Prim.Native.Nat.{ℕ, ◌/◌, ◌%◌}
 use mathlib.Core.Path.{◌≡◌, refl, ◌∙◌}
@@ -10,7 +10,7 @@ use Rattle.rules.proofs.Connectives.{both}
 use Rattle.rules.proofs.Means.{and_means, eq_means, le_means, same_means}
 use Rattle.store.specs.Sizes.{lengths_of, sizes_right}
 use Rattle.store.proofs.RightSizes.{sizes_in_numbers}
-use Rattle.store.proofs.sizes.sizes_right.Goals as goal
+use Rattle.store.proofs.memory.Memory.sizes_right.Goals as goal
 
 tests_join : (b n m : ℕ)
     → ((eqb b 8192 and eqb (n % 20) 0) and (leb 2 (n / 20) and leb (n / 20) 2049)) and (leb 1 m and leb m 16384) ≡ sizes_right (lengths_of b n m)
@@ -26,4 +26,4 @@ tests_join b n m =
 pub returns : goal.returns
 returns c =
     both (both (both refl refl) (both refl refl)) (both refl refl)
-    ∙ tests_join (length c.args.bands.now) (length c.args.nodes.now) (length c.args.marks.now)
+    ∙ tests_join (length c.args.self.bands.now) (length c.args.self.nodes.now) (length c.args.self.marks.now)
