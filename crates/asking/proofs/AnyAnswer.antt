@@ -143,7 +143,7 @@ module _ (m : Memory) where
 
 -- ---- and so does whatever meets a promise
 
-module _ (κs : Lfts 3) where
+module _ (κs : Lfts 1) where
   pub any_stab : (given after : Lent (Key × Unit {0})) (r : Result StabRead Refusal) → StabPromise κs given r after
       → StabTold (lent_memory given) (also_given given).0.0 (stab_says r) × SameWords after given
   any_stab given after r met =
@@ -189,7 +189,7 @@ pub record LentAlike {A : Type 0} (given other : Lent A) : Type 0 where
   pub marks : (lent_memory given).marks ≡ (lent_memory other).marks
   pub also : also_given given ≡ also_given other
 
-module _ (κs : Lfts 3) where
+module _ (κs : Lfts 1) where
   pub any_stabs_alike : (given after other after' : Lent (Key × Unit {0})) (a b : Result StabRead Refusal) → StabPromise κs given a after → StabPromise κs other b after'
       → LentAlike given other → a ≡ b
   any_stabs_alike given after other after' a b met met' alike =

@@ -19,17 +19,17 @@ use Rattle.asking.proofs.edge_readout.edge.Reads.{Post as edge_ensured}
 use Rattle.asking.proofs.node_readout.node.Reads.{Post as node_ensured}
 use Rattle.asking.proofs.room_readout.room.Reads.{Post as room_ensured}
 
-abbrev pub StabPromise : Lfts 3 → Lent (Key × Unit {0}) → Result StabRead Refusal → Lent (Key × Unit {0}) → Type 0
+abbrev pub StabPromise : Lfts 1 → Lent (Key × Unit {0}) → Result StabRead Refusal → Lent (Key × Unit {0}) → Type 0
 StabPromise κs given r after = stab_ensured κs given r after
 
-abbrev pub BandPromise : Lfts 3 → Lent (ℕ × Unit {0}) → Result BandRead Refusal → Lent (ℕ × Unit {0}) → Type 0
+abbrev pub BandPromise : Lfts 1 → Lent (ℕ × Unit {0}) → Result BandRead Refusal → Lent (ℕ × Unit {0}) → Type 0
 BandPromise κs given r after = band_ensured κs given r after
 
-abbrev pub EdgePromise : Lfts 3 → Lent (Key × (ℕ × Unit {0})) → Result EdgeRead Refusal → Lent (Key × (ℕ × Unit {0})) → Type 0
+abbrev pub EdgePromise : Lfts 1 → Lent (Key × (ℕ × Unit {0})) → Result EdgeRead Refusal → Lent (Key × (ℕ × Unit {0})) → Type 0
 EdgePromise κs given r after = edge_ensured κs given r after
 
-abbrev pub NodePromise : Lfts 3 → Lent (Key × Unit {0}) → Result NodeRead Refusal → Lent (Key × Unit {0}) → Type 0
+abbrev pub NodePromise : Lfts 1 → Lent (Key × Unit {0}) → Result NodeRead Refusal → Lent (Key × Unit {0}) → Type 0
 NodePromise κs given r after = node_ensured κs given r after
 
-abbrev pub RoomPromise : Lfts 3 → Lent (Unit {0}) → Result RoomRead Refusal → Lent (Unit {0}) → Type 0
+abbrev pub RoomPromise : Lfts 1 → Lent (Unit {0}) → Result RoomRead Refusal → Lent (Unit {0}) → Type 0
 RoomPromise κs given r after = room_ensured κs given r after

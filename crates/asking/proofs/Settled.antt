@@ -62,7 +62,7 @@ room_told_back = read_told_back room_said no_room_read (λ x y same i. record { 
 
 -- ---- the promises
 
-module _ (κs : Lfts 3) where
+module _ (κs : Lfts 1) where
   pub stab_settled : (given x y : Lent (Key × Unit {0})) (a b : Result StabRead Refusal) → StabPromise κs given a x → StabPromise κs given b y
       → (a ≡ b) × SameWords x y × SameWords x given
   stab_settled given x y a b p q = let same = asked_settled given x y p q in (stab_told_back a b same.0, same.1, same.2)

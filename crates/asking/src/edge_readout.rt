@@ -1,36 +1,33 @@
 // The edge readout.
 ghost use Rattle.std.specs.Prelude.{◌≡◌};
 ghost use Rattle.hall.specs.Says.{key_said, key_says};
-ghost use Rattle.store.specs.Memory.{lent};
+ghost use Rattle.store.specs.LentMemory.{words_in};
 ghost use Rattle.store.specs.Came.{asked, telling};
 ghost use Rattle.asking.specs.EdgeCall.{key_at, edge_in};
 ghost use Rattle.asking.specs.Says.{edge_read_says};
 
 use crate::judging::judge_key;
 use hall::{EdgeRead, Key, Refusal};
+use store::Memory;
 
 // The edge out of the node at a key in a lane.
-pub fn edge(
-    bands: &[u32],
-    nodes: &[u32],
-    marks: &[u32],
-    key: Key,
-    lane: u32,
-) -> Result<EdgeRead, Refusal>
-    ensures { asked (edge_read_says result) bands.exit.now nodes.exit.now marks.exit.now
-        ≡ telling (λ m. edge_in m key.0 lane) (lent bands.entry.now nodes.entry.now marks.entry.now) }
+pub fn edge(memory: Memory<'_>, key: Key, lane: u32) -> Result<EdgeRead, Refusal>
+    ensures { asked (edge_read_says result) (words_in memory.exit) ≡ telling (λ m. edge_in m key.0 lane) (words_in memory.entry) }
 {
-    judge_key(bands, nodes, marks, key)?;
-    let place = search::place_of(nodes, key).ok_or(Refusal::NoNodeOrLane)?;
-    let level = store::node_word(nodes, place, store::LEVEL);
+    judge_key(memory, key)?;
+    let place = search::place_of(memory.nodes, key).ok_or(Refusal::NoNodeOrLane)?;
+    let level = store::node_word(memory.nodes, place, store::LEVEL);
     let lane = lane as usize;
     let has_lane = (lane < store::LANES) & (lane < level as usize);
     if !has_lane {
         return Err(Refusal::NoNodeOrLane);
     }
-    let flags = search::marked(nodes, marks, place, 1 + lane).flags;
+    let flags = search::marked(memory.nodes, memory.marks, place, 1 + lane).flags;
     Ok(EdgeRead {
-        next: key_at(nodes, store::node_word(nodes, place, store::LINKS + lane)),
+        next: key_at(
+            memory.nodes,
+            store::node_word(memory.nodes, place, store::LINKS + lane),
+        ),
         flags,
     })
 }

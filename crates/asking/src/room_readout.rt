@@ -1,22 +1,22 @@
 // The room readout.
 ghost use Rattle.std.specs.Prelude.{◌≡◌};
-ghost use Rattle.store.specs.Memory.{lent};
+ghost use Rattle.store.specs.LentMemory.{words_in};
 ghost use Rattle.store.specs.Came.{asked, telling};
 ghost use Rattle.asking.specs.RoomCall.{room_read_in};
 ghost use Rattle.asking.specs.Says.{room_read_says};
 
 use hall::{Refusal, RoomRead};
+use store::Memory;
 
 // The room used.
-pub fn room(bands: &[u32], nodes: &[u32], marks: &[u32]) -> Result<RoomRead, Refusal>
-    ensures { asked (room_read_says result) bands.exit.now nodes.exit.now marks.exit.now
-        ≡ telling room_read_in (lent bands.entry.now nodes.entry.now marks.entry.now) }
+pub fn room(memory: Memory<'_>) -> Result<RoomRead, Refusal>
+    ensures { asked (room_read_says result) (words_in memory.exit) ≡ telling room_read_in (words_in memory.entry) }
 {
-    if !store::sizes_right(bands, nodes, marks) {
+    if !memory.sizes_right() {
         return Err(Refusal::MemoryUnfit);
     }
     Ok(RoomRead {
-        nodes: store::node_word(nodes, store::HEADER, store::NODES_IN_USE),
-        marks: store::node_word(nodes, store::HEADER, store::MARKS_IN_USE),
+        nodes: store::node_word(memory.nodes, store::HEADER, store::NODES_IN_USE),
+        marks: store::node_word(memory.nodes, store::HEADER, store::MARKS_IN_USE),
     })
 }

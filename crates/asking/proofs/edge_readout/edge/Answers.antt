@@ -56,5 +56,5 @@ returns c =
     let has_lane = sym (lane_test c.args.lane _ _ c.node_word-level.ensures) ∙ c.if-not-has_lane.false in
     let flags = ap (λ t. t.flags) c.marked.ensures in
     left_as_it_was
-    (ap (saying 0) (words_read c.args.nodes.now c.args.marks.now _ c.args.lane _ _ _ c.node_word.ensures c.key_at.ensures flags)
+    (ap (saying 0) (words_read c.args.memory.nodes.now c.args.memory.marks.now _ c.args.lane _ _ _ c.node_word.ensures c.key_at.ensures flags)
     ∙ edge_read_lem _ _ c.in_ok-judge_key.ensures _ found.0 found.1 _ has_lane)
