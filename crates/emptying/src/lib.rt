@@ -2,23 +2,29 @@
 #![tactic(auto)]
 
 ghost use Rattle.std.specs.Prelude.{◌≡◌};
-ghost use Rattle.store.specs.Memory.{lent};
+ghost use Rattle.store.specs.LentMemory.{words_in_mut, StillLent};
 ghost use Rattle.emptying.specs.EmptyCall.{empty_in};
 ghost use Rattle.store.specs.Came.{came};
 
 use hall::{Answer, Refusal};
+use store::MemoryMut;
 
 // Whatever the memory held, it is that of the empty profile afterwards; memory of wrong sizes is left as it was.
-pub fn empty(bands: &mut [u32], nodes: &mut [u32], marks: &mut [u32]) -> Answer
-    ensures { came result bands.new nodes.new marks.new
-        ≡ empty_in (lent bands.old nodes.old marks.old) }
+pub fn empty(memory: &mut MemoryMut<'_>) -> Answer
+    ensures empties { came result (words_in_mut memory.new) ≡ empty_in (words_in_mut memory.old) }
+    ensures lent { StillLent memory.old memory.new }
 {
-    if !store::sizes_right(bands, nodes, marks) {
+    if !memory.to_ask().sizes_right() {
         return Err(Refusal::MemoryUnfit);
     }
-    store::clear(bands);
-    store::clear(nodes);
-    store::clear(marks);
-    store::put_node_word(nodes, store::HEADER, store::LANE_COUNT, store::LANES as u32);
+    store::clear(memory.bands);
+    store::clear(memory.nodes);
+    store::clear(memory.marks);
+    store::put_node_word(
+        memory.nodes,
+        store::HEADER,
+        store::LANE_COUNT,
+        store::LANES as u32,
+    );
     Ok(())
 }

@@ -1,22 +1,28 @@
 -- `emptying::empty` meets its contract.
 -- Assumes nothing.
-use mathlib.Core.Path.{sym, ap, ◌∙◌}
+use mathlib.Core.Path.{◌≡◌, sym, ap, ◌∙◌}
+use mathlib.Core.Bool.{Bool}
 use lib.ListN.{set}
 use Rattle.rules.specs.NodesLanesEdges.{lanes}
 use Rattle.rules.specs.BoxSaysNo.{leaving}
-use Rattle.store.specs.Memory.{lent}
+use Rattle.store.specs.Sizes.{sizes_right}
+use Rattle.store.specs.Memory.{Memory, lent, lengths_in}
 use Rattle.store.specs.Places.{with_node_field, lane_count_field}
 use Rattle.emptying.proofs.EmptyExact.{empty_by_1, emptied}
 use Rattle.emptying.proofs.EmptyWords.{empty_memory}
 use Rattle.emptying.proofs.empty.Goals as goal
 
-pub returns-then-not-sizes_right : goal.returns-then-not-sizes_right
-returns-then-not-sizes_right c = empty_by_1 _ (sym c.if-not-sizes_right.ensures)
+-- the sizes that were tested are those of the memory that was lent
+tested : {w m : Memory} {answer : Bool} → w ≡ m → answer ≡ sizes_right (lengths_in w) → sizes_right (lengths_in m) ≡ answer
+tested same test = ap (λ m. sizes_right (lengths_in m)) (sym same) ∙ sym test
 
-pub returns : goal.returns
+pub returns-then-not-sizes_right-clause-empties : goal.returns-then-not-sizes_right-clause-empties
+returns-then-not-sizes_right-clause-empties c = empty_by_1 _ (tested c.to_ask.ensures c.if-not-sizes_right.ensures)
+
+pub returns-clause-empties : goal.returns-clause-empties
 unfolding with_node_field
-returns c =
-    let right = sym c.if-not-sizes_right.ensures in
+returns-clause-empties c =
+    let right = tested c.to_ask.ensures c.if-not-sizes_right.ensures in
     let bands = c.clear.ensures in
     let nodes = c.put_node_word.ensures ∙ ap (λ words. set words lane_count_field lanes) c.clear-2.ensures in
     let marks = c.clear-3.ensures in
