@@ -36,17 +36,17 @@ lay_draft-requires c =
       counted_from_zero _ _ _ _ (search rules) completed.1,
     )
 
-pub returns-in_err-complete : goal.returns-in_err-complete
-returns-in_err-complete c =
+pub returns-in_err-complete-clause-commits : goal.returns-in_err-complete-clause-commits
+returns-in_err-complete-clause-commits c =
     let drafted = c.requires.1.1 in
     let answered : c.from_residual.result ≡ Err c.in_err-complete.field-0.0 = search rules in
     let judged = ap answer_says answered ∙ c.in_err-complete.ensures.0 in
     of_every (λ p. leaving _ _ ≡ committed _ p) drafted
     (draft_refused _ _ _ _ _ _ judged (λ none. no_refusal_says_0 _ (sym (ap answer_says answered) ∙ none)) ∙ ap (committed _) (drafts_say drafted))
 
-pub returns : goal.returns
-returns c =
+pub returns-clause-commits : goal.returns-clause-commits
+returns-clause-commits c =
     let drafted = c.requires.1.1 in
     let done = ap answer_says c.in_ok-complete.was in
     of_every (λ p. leaving _ _ ≡ committed _ p) drafted
-    (draft_accepted _ _ _ _ _ _ c.complete.ensures.0 done _ (c.complete.ensures.1 done).0 _ _ _ c.lay_draft.ensures ∙ ap (committed _) (drafts_say drafted))
+    (draft_accepted _ _ _ _ _ _ c.complete.ensures.0 done _ (c.complete.ensures.1 done).0 _ _ _ c.lay_draft.ensures.laid ∙ ap (committed _) (drafts_say drafted))

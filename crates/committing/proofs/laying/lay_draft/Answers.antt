@@ -12,8 +12,8 @@ lay-requires c =
     let size = (sizes_in_numbers _ _ _).fact pre.0 in
     (drafted_within _ _ _ _ _ pre.0 pre.1 pre.2 pre.3, search rules)
 
-pub returns : goal.returns
-returns c =
+pub returns-clause-laid : goal.returns-clause-laid
+returns-clause-laid c =
     let pre = c.requires in
     draft_laid_lem _ _ _ _ _ pre.0 pre.1 pre.2 pre.3 _ _ _ _ _ _ pre.4 (omega arith)
     c.copy.ensures c.copy-2.ensures c.clear.ensures c.lay.ensures
