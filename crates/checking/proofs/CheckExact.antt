@@ -30,6 +30,6 @@ sound_exact m answer says =
       test = λ s. says ∙ subst (λ w. sound w ≡ true) (sym s.3) (laid_sound s.0 s.1 s.2);
     }
 
-pub check_exact : (κs : Lfts 3) (given after : Lent (Unit {0})) (answer : Bool) → CheckPromise κs given answer after
+pub check_exact : (κs : Lfts 1) (given after : Lent (Unit {0})) (answer : Bool) → CheckPromise κs given answer after
     → Means answer (OneMemory (lent_memory given)) × SameWords after given
 check_exact κs given after answer met = (sound_exact (lent_memory given) answer (what_was_told given after met), words_left given after met)

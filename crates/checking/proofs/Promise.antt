@@ -7,5 +7,5 @@ use Rattle.store.proofs.LentWords.{Lent}
 use Rattle.checking.proofs.whole_profile.check.Reads.{Post as ensured}
 
 -- it is given the three slices and nothing else
-abbrev pub CheckPromise : Lfts 3 → Lent (Unit {0}) → Bool → Lent (Unit {0}) → Type 0
+abbrev pub CheckPromise : Lfts 1 → Lent (Unit {0}) → Bool → Lent (Unit {0}) → Type 0
 CheckPromise κs given answer after = ensured κs given answer after

@@ -9,6 +9,6 @@ use Rattle.store.proofs.LentWords.{Lent, SameWords}
 use Rattle.store.proofs.OnlyAsked.{asked_settled}
 use Rattle.checking.proofs.Promise.{CheckPromise}
 
-pub check_settled : (κs : Lfts 3) (given x y : Lent (Unit {0})) (a b : Bool) → CheckPromise κs given a x → CheckPromise κs given b y
+pub check_settled : (κs : Lfts 1) (given x y : Lent (Unit {0})) (a b : Bool) → CheckPromise κs given a x → CheckPromise κs given b y
     → (a ≡ b) × SameWords x y × SameWords x given
 check_settled κs given x y a b p q = asked_settled given x y p q
