@@ -17,8 +17,9 @@ use Rattle.rules.specs.Calls.{emptying, inserting, removing}
 use Rattle.rules.proofs.InsertRefused.{InsertGives}
 use Rattle.rules.proofs.RemoveRefused.{RemoveGives}
 use Rattle.rules.proofs.OthersRefused.{SizesGive}
-use Rattle.hall.specs.declared.answers.Answer.{Answer}
-use Rattle.hall.specs.declared.bands.Band.{Band as GivenBand}
+use Rattle.std.specs.Prelude.{Result}
+use Rattle.hall.specs.declared.answers.Refusal.{Refusal}
+use Rattle.hall.specs.declared.entries.Entry.{Entry}
 use Rattle.hall.specs.SaidBand.{said}
 use Rattle.store.specs.Sizes.{sizes_right}
 use Rattle.store.specs.Memory.{Memory, lengths_in, room_in}
@@ -73,7 +74,7 @@ empty_outcome m =
           change_ends m (empty_refusal (sizes_right (lengths_in m))) empty_profile (empty_fitting m) (empty_makes m right).accepted number h (λ b i. absurd i);
     }
 
-pub any_empty_outcome : (κs : Lfts 3) (given left : LentToChange (Unit {0})) (a : Answer) → empty_promise κs given a left
+pub any_empty_outcome : (κs : Lfts 3) (given left : LentToChange (Unit {0})) (a : Result Unit Refusal) → empty_promise κs given a left
     → EmptyOutcome (memory_to_change given) (came_of_change a left)
 any_empty_outcome κs given left a meets = subst (EmptyOutcome (memory_to_change given)) (sym meets) (empty_outcome (memory_to_change given))
 
@@ -119,10 +120,10 @@ insert_outcome m b lo hi =
       alone = insert_alone m b lo hi;
     }
 
-pub any_insert_outcome : (κs : Lfts 3) (given left : LentToChange (GivenBand × (ℕ × (ℕ × Unit {0})))) (a : Answer) → insert_promise κs given a left
-    → InsertOutcome (memory_to_change given) (said (also_given given).0) (also_given given).1.0 (also_given given).1.1.0 (came_of_change a left)
+pub any_insert_outcome : (κs : Lfts 3) (given left : LentToChange (Entry × Unit {0})) (a : Result Unit Refusal) → insert_promise κs given a left
+    → InsertOutcome (memory_to_change given) (said (also_given given).0.band) (also_given given).0.low_level (also_given given).0.high_level (came_of_change a left)
 any_insert_outcome κs given left a meets =
-    subst (InsertOutcome (memory_to_change given) (said (also_given given).0) (also_given given).1.0 (also_given given).1.1.0) (sym meets) (insert_outcome _ _ _ _)
+    subst (InsertOutcome (memory_to_change given) (said (also_given given).0.band) (also_given given).0.low_level (also_given given).0.high_level) (sym meets) (insert_outcome _ _ _ _)
 
 -- ---- removing a band
 
@@ -162,7 +163,7 @@ remove_outcome m number scope =
       alone = remove_alone m number scope;
     }
 
-pub any_remove_outcome : (κs : Lfts 3) (given left : LentToChange (ℕ × (ℕ × Unit {0}))) (a : Answer) → remove_promise κs given a left
+pub any_remove_outcome : (κs : Lfts 3) (given left : LentToChange (ℕ × (ℕ × Unit {0}))) (a : Result Unit Refusal) → remove_promise κs given a left
     → RemoveOutcome (memory_to_change given) (also_given given).0 (also_given given).1.0 (came_of_change a left)
 any_remove_outcome κs given left a meets =
     subst (RemoveOutcome (memory_to_change given) (also_given given).0 (also_given given).1.0) (sym meets) (remove_outcome _ _ _)

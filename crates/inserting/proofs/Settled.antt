@@ -2,14 +2,14 @@
 -- all three slices. Stated of the promise itself: one that said less would not settle the outcome.
 -- Assumes nothing.
 use Prim.{Unit}
-use Prim.Native.Nat.{ℕ}
-use Rattle.hall.specs.declared.bands.Band.{Band}
 use contract.Lifetimes.{Lfts}
 use mathlib.Core.Path.{◌≡◌}
-use Rattle.hall.specs.declared.answers.Answer.{Answer}
+use Rattle.std.specs.Prelude.{Result}
+use Rattle.hall.specs.declared.answers.Refusal.{Refusal}
+use Rattle.hall.specs.declared.entries.Entry.{Entry}
 use Rattle.store.proofs.LentWords.{LentToChange, SameWordsLeft}
 use Rattle.store.proofs.ToldBack.{change_told_back}
 use Rattle.inserting.proofs.insert.Reads.{Post as promise}
 
-pub insert_settled : (κs : Lfts 3) (given x y : LentToChange (Band × (ℕ × (ℕ × Unit {0})))) (a b : Answer) → promise κs given a x → promise κs given b y → (a ≡ b) × SameWordsLeft x y
+pub insert_settled : (κs : Lfts 3) (given x y : LentToChange (Entry × Unit {0})) (a b : Result Unit Refusal) → promise κs given a x → promise κs given b y → (a ≡ b) × SameWordsLeft x y
 insert_settled κs given x y a b p q = change_told_back a b _ _ _ _ _ _ p q

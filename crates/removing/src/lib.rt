@@ -1,11 +1,9 @@
 // A call that changes: removing a band.
 #![tactic(auto)]
 
-ghost use Rattle.std.specs.Prelude.{◌≡◌, replicate, ◌*◌};
+ghost use Rattle.std.specs.Prelude.{◌≡◌};
 ghost use Rattle.hall.specs.Says.{answer_says};
 ghost use Rattle.store.specs.Memory.{lent};
-ghost use Rattle.store.specs.Sizes.{band_places, band_place_words};
-ghost use Rattle.drafting.specs.NodeDraft.{draft_words};
 ghost use Rattle.removing.specs.RemoveCall.{remove_in, remove_judged};
 ghost use Rattle.store.specs.Came.{came};
 
@@ -23,10 +21,8 @@ pub fn remove(
     ensures { came result bands.new nodes.new marks.new
         ≡ remove_in (lent bands.old nodes.old marks.old) number scope }
 {
-    match judge(bands, nodes, marks, number, scope) {
-        Answer::Refused(refusal) => Answer::Refused(refusal),
-        Answer::Done => remove_judged(bands, nodes, marks, number, scope),
-    }
+    judge(bands, nodes, marks, number, scope)?;
+    remove_judged(bands, nodes, marks, number, scope)
 }
 
 // Judges 1, 2, 3, 9 and 10, which need no draft.
@@ -34,25 +30,25 @@ fn judge(bands: &[u32], nodes: &[u32], marks: &[u32], number: u32, scope: u32) -
     ensures { answer_says result ≡ remove_judged (lent bands.now nodes.now marks.now) number scope }
 {
     if !checking::check(bands, nodes, marks) {
-        return Answer::Refused(Refusal::MemoryUnfit);
+        return Err(Refusal::MemoryUnfit);
     }
     if Band::HOUSE < scope {
-        return Answer::Refused(Refusal::ScopeAbove);
+        return Err(Refusal::ScopeAbove);
     }
     if Band::HIGHEST_NUMBER < number {
-        return Answer::Refused(Refusal::NumberAbove);
+        return Err(Refusal::NumberAbove);
     }
-    let place = number as usize;
-    if !store::is_live(bands, place) {
-        return Answer::Refused(Refusal::NumberNotLive);
+    if !store::is_live(bands, number) {
+        return Err(Refusal::NumberNotLive);
     }
-    if store::band_at(bands, place).scope != scope {
-        return Answer::Refused(Refusal::ScopeOther);
+    if store::band_at(bands, number).scope != scope {
+        return Err(Refusal::ScopeOther);
     }
-    Answer::Done
+    Ok(())
 }
 
-// The rest of a remove that 1, 2, 3, 9 and 10 do not refuse.
+// The rest of a remove that 1, 2, 3, 9 and 10 do not refuse, with words to draft in: the bands that are left, then the nodes at their ends.
+// (Why an insert has a function of its own for that: there.)
 fn remove_judged(
     bands: &mut [u32],
     nodes: &mut [u32],
@@ -66,35 +62,8 @@ fn remove_judged(
 {
     let mut draft_bands = [0u32; store::BAND_WORDS];
     let mut draft_nodes = [0u32; drafting::DRAFT_WORDS];
-    remove_with(
-        bands,
-        nodes,
-        marks,
-        number,
-        scope,
-        &mut draft_bands,
-        &mut draft_nodes,
-    )
-}
-
-// The same, with words to draft in: the bands that are left, then the nodes at their ends.
-fn remove_with(
-    bands: &mut [u32],
-    nodes: &mut [u32],
-    marks: &mut [u32],
-    number: u32,
-    scope: u32,
-    draft_bands: &mut [u32],
-    draft_nodes: &mut [u32],
-) -> Answer
-    requires { (remove_judged (lent bands.old nodes.old marks.old) number scope ≡ 0)
-        × (draft_bands.old ≡ replicate (band_places * band_place_words) 0)
-        × (draft_nodes.old ≡ replicate draft_words 0) }
-    ensures { came result bands.new nodes.new marks.new
-        ≡ remove_in (lent bands.old nodes.old marks.old) number scope }
-{
-    store::copy(bands, draft_bands);
-    store::drop_band(draft_bands, number as usize);
-    drafting::keep_ends(draft_bands, nodes, draft_nodes);
-    committing::commit(draft_bands, draft_nodes, bands, nodes, marks)
+    store::copy(bands, &mut draft_bands);
+    store::drop_band(&mut draft_bands, number);
+    drafting::keep_ends(&draft_bands, nodes, &mut draft_nodes);
+    committing::commit(&draft_bands, &mut draft_nodes, bands, nodes, marks)
 }

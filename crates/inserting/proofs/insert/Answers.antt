@@ -1,16 +1,15 @@
 -- `inserting::insert` meets its contract: what is judged stands, and where nothing is given the rest is the insert.
 -- Assumes nothing.
-use mathlib.Core.Path.{sym, ap, ◌∙◌}
-use Rattle.hall.specs.Says.{answer_says}
+use mathlib.Core.Path.{◌≡◌, ap, ◌∙◌}
+use Rattle.std.proofs.Common.{rules}
+use Rattle.std.specs.Prelude.{Err}
 use Rattle.hall.proofs.OneToOne.{no_refusal_says_0}
+use Rattle.store.specs.Came.{came}
 use Rattle.inserting.proofs.InsertSteps.{insert_refused}
 use Rattle.inserting.proofs.insert.Goals as goal
 
-pub insert_judged-requires : goal.insert_judged-requires
-insert_judged-requires c =
-    sym c.judge.ensures ∙ ap answer_says c.in-Done.is
-
-pub returns-in-Refused : goal.returns-in-Refused
-returns-in-Refused c =
-    let judged = sym (ap answer_says c.in-Refused.is) ∙ c.judge.ensures in
-    insert_refused _ _ _ _ _ judged (no_refusal_says_0 c.in-Refused.refusal)
+pub returns-in_err-judge : goal.returns-in_err-judge
+returns-in_err-judge c =
+    let answered : c.from_residual.result ≡ Err c.in_err-judge.field-0.0 = search rules in
+    ap (λ a. came a c.args.bands.now c.args.nodes.now c.args.marks.now) answered
+    ∙ insert_refused _ _ _ _ _ c.in_err-judge.ensures (no_refusal_says_0 _)
