@@ -4,8 +4,12 @@ use Prim.{Unit}
 use Prim.Native.Nat.{ℕ, zero, suc, ◌+◌, ◌-◌, ◌≤◌}
 use mathlib.Core.Path.{◌≡◌, refl, sym, ◌∙◌, subst, ap}
 use mathlib.Core.Bool.{Bool, true, false}
+use mathlib.Core.List.{List, [], ◌∷◌}
+use mathlib.Core.Logic.{⊎_elim}
 use native.Mathlib.Omega.{arith}
 use denote.Param.Members.{Mut}
+use lib.ListN.{length, take, drop, get_or}
+use lib.Seq.{drop-cons}
 use Rattle.std.specs.Prelude.{Option, Some, None, IsTrue}
 use Rattle.std.specs.Bool.{MatchBool}
 use Rattle.std.specs.Option.{IfSome, IsSomeAnd, option_map}
@@ -14,17 +18,13 @@ use Rattle.std.specs.Iterator.Runs.{Run, SomeRun, ItemsCountUp, AllItemsGive, An
 use Rattle.std.specs.Range.{range_inclusive_start, range_inclusive_end, range_inclusive_exhausted}
 use Rattle.std.proofs.iter.runs.Sources.{range_runs, inclusive_listed, nat_range_inclusive_steps}
 use Rattle.std.proofs.iter.Yields.{nat_range_steps}
-use Rattle.rules.specs.Lists.{all, all_from}
-use Rattle.rules.proofs.Connectives.{both}
-use mathlib.Core.List.{List, [], ◌∷◌}
-use lib.ListN.{length, take, drop, get_or}
-use lib.Seq.{drop-cons}
 use Rattle.std.specs.List.{list_all, slice_range}
-use Rattle.rules.proofs.Lists.{all_from_means}
-use Rattle.rules.proofs.Means.{itself, never, passes_or_fails}
-use mathlib.Core.Logic.{⊎_elim}
 use Rattle.std.specs.declared.ops.RangeInclusive.{RangeInclusive}
 use Rattle.std.specs.declared.ops.Range.{Range}
+use Rattle.rules.specs.Lists.{all, all_from}
+use Rattle.rules.proofs.Connectives.{both}
+use Rattle.rules.proofs.Lists.{all_from_means}
+use Rattle.rules.proofs.Means.{itself, never, passes_or_fails}
 
 -- the item at a place of the run
 number_at : (o : Option ℕ) {n : ℕ} → option_map (λ y. y) o ≡ Some n → o ≡ Some n

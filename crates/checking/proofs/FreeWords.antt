@@ -10,13 +10,13 @@ use native.Mathlib.Omega.{arith}
 use lib.Dec.{eqb}
 use lib.ListN.{length, get_or, get_or-eq_default, drop, length-drop}
 use Rattle.std.proofs.lemmas.List.{take_min}
-use Rattle.checking.proofs.AllOf.{all_are}
 use Rattle.std.specs.List.{list_all, slice_range}
-use Rattle.store.specs.SaidMarks.{between}
 use Rattle.rules.specs.Connectives.{◌and◌}
 use Rattle.rules.proofs.Means.{Means, reworded, and_means, eq_means, at_most_or_above}
+use Rattle.store.specs.SaidMarks.{between}
 use Rattle.store.proofs.Between.{next_between, none_between}
 use Rattle.checking.specs.Zeros.{zeros_between}
+use Rattle.checking.proofs.AllOf.{all_are}
 
 -- one word, and then those after it
 zeros_next : (from to : ℕ) (words : List ℕ) → from < min to (length words)
