@@ -28,6 +28,7 @@ impl Record for Band {
 impl Record for [u32; RECORD_WORDS] {
     ghost says = { record_of };
 
+    #[tactic(auto, unfolding(crate::specs::Records::record_at))]
     fn band(self) -> Band {
         let [number, scope, low, high, low_closed, high_closed] = self;
         Band {

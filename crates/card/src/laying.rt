@@ -13,6 +13,7 @@ pub const MOST_RECORDS: usize = 1100;
 pub fn lay_record(words: &mut [u32], at: usize, band: Band)
     ensures { words.new ≡ with_record words.old at (said band) }
 {
+    // By the index of its first word: of `as_chunks_mut` std does not say what the slice ends as, so over chunks this promise was not proved.
     if at < words.len() / RECORD_WORDS {
         let first = at * RECORD_WORDS;
         words[first..first + RECORD_WORDS].copy_from_slice(&[

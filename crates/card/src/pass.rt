@@ -30,6 +30,7 @@ pub(crate) struct Pass {
 
 impl Pass {
     // The key is judged before the records.
+    #[tactic(auto, unfolding(crate::specs::Pass::begin_of))]
     pub(crate) fn begin(key: Key) -> Result<Pass, Wrong>
         ensures { pass_says result ≡ begin_of key.0 }
     {
@@ -41,6 +42,7 @@ impl Pass {
     }
 
     // Judges the record at a place and enters it, or tells what is wrong with it.
+    #[tactic(auto, unfolding(crate::specs::Pass::step_of))]
     pub(crate) fn step(self, place: usize, band: Band, key: Key) -> Result<Pass, Wrong>
         ensures { pass_says result ≡ step_of (pass_says (Ok self)) place (said band) key.0 }
     {
@@ -61,6 +63,7 @@ impl Pass {
     }
 
     // Judges a record by 2 to 6, then by 8: the later of two with one number is told.
+    #[tactic(auto, unfolding(crate::specs::Pass::judge_of))]
     fn judge(&self, band: Band) -> Answer
         ensures { answer_says result ≡ judge_of self.now.seen (said band) }
     {
@@ -73,6 +76,7 @@ impl Pass {
     }
 
     // A right record's number is seen, and held where the record holds the key.
+    #[tactic(auto, unfolding(crate::specs::Pass::entered_of))]
     fn enter(mut self, band: Band, key: Key) -> Pass
         ensures { pass_says (Ok result) ≡ entered_of (pass_says (Ok self)) (said band) key.0 }
     {

@@ -17,6 +17,7 @@ pub fn scan(cards: &[Band], key: Key) -> Result<Held, Wrong>
 }
 
 // The same over words, six to a record. Words past the last whole record play no part.
+#[tactic(auto, using(crate::proofs::Records::records_of_chunks))]
 pub fn scan_words(words: &[u32], key: Key) -> Result<Held, Wrong>
     ensures { (scan_says result ≡ scan_of (records_in words.entry.now) key.0)
         × (words.exit.now ≡ words.entry.now) }

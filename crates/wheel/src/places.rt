@@ -17,6 +17,7 @@ impl Place {
     }
 
     // The place that follows; after the last comes the first.
+    #[tactic(auto, unfolding(rules::specs::Wheel::next_place))]
     pub(crate) fn next(self) -> Place
         requires { self.0 ≤ wheel_places }
         ensures { result.0 ≡ next_place self.0 }
