@@ -52,6 +52,7 @@ fn stair_at(nodes: &[u32], here: u32, high: Key) -> Option<Stair>
 
 // Writes the slots visited at a place past the first `at`, and answers how many there are then: the node's own where the band holds its key, and the
 // stair's where there is one.
+// Words and a count, since an `ArrayVec` writes a blank over each of its slots whenever it is cleared for the next band.
 fn visit(
     nodes: &[u32],
     band: Band,
