@@ -33,6 +33,7 @@ pub fn place_of(nodes: &[u32], key: Key) -> Option<u32>
 }
 
 // How many places are in use, by the header's count and as far as there are words.
+#[tactic(auto, unfolding(crate::specs::PlaceOf::places_in_use))]
 fn places_in_use(nodes: &[u32]) -> u32
     ensures { result ≡ places_in_use nodes.now }
 {

@@ -14,6 +14,7 @@ pub(crate) struct Next {
 }
 
 // The node that comes next after a place in a lane, where one does: a link of 0 leads nowhere.
+#[tactic(auto, unfolding(crate::specs::Descent::next_of))]
 pub(crate) fn next_in(nodes: &[u32], place: u32, lane: usize) -> Option<Next>
     requires { lane < lanes }
     ensures none { IfNone result (next_of nodes.now place lane ≡ 0) }

@@ -13,6 +13,7 @@ pub struct Taken {
 
 impl Taken {
     // Nothing taken yet.
+    #[tactic(auto, using(rules::proofs::Flags::flags_of_none))]
     pub(crate) fn nothing() -> Taken
         ensures { result ≡ taken_of [] }
     {

@@ -53,7 +53,7 @@ between_in_reach from to start end words e f =
     let s : start ≡ from = omega arith in
     ⊎_elim
     (λ (near : to ≤ length words). let t : end ≡ to = omega arith in rw (s, t))
-    (λ far.
+    (λ (far : length words < to).
     let t : end ≡ length words = omega arith in
     rw (
       s,

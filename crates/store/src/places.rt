@@ -50,6 +50,7 @@ pub const MARKS_IN_USE: usize = 10;
 pub const LANES: usize = 8;
 
 // A field of a band's place.
+#[tactic(auto, unfolding(crate::specs::Places::band_field))]
 pub fn band_word(bands: &[u32], number: u32, field: usize) -> u32
     requires { field < 8 }
     ensures { result ≡ band_field bands.now number field }
@@ -58,6 +59,7 @@ pub fn band_word(bands: &[u32], number: u32, field: usize) -> u32
 }
 
 // A field of a band's place is stored.
+#[tactic(auto, unfolding(crate::specs::Places::with_band_field))]
 pub(crate) fn put_band_word(bands: &mut [u32], number: u32, field: usize, value: u32)
     requires { field < 8 }
     ensures { bands.new ≡ with_band_field bands.old number field value }
@@ -66,6 +68,7 @@ pub(crate) fn put_band_word(bands: &mut [u32], number: u32, field: usize, value:
 }
 
 // A field of a node place; place 0 is the header's.
+#[tactic(auto, unfolding(crate::specs::Places::node_field))]
 pub fn node_word(nodes: &[u32], place: u32, field: usize) -> u32
     requires { field < 20 }
     ensures { result ≡ node_field nodes.now place field }
@@ -74,6 +77,7 @@ pub fn node_word(nodes: &[u32], place: u32, field: usize) -> u32
 }
 
 // A field of a node place is stored.
+#[tactic(auto, unfolding(crate::specs::Places::with_node_field))]
 pub fn put_node_word(nodes: &mut [u32], place: u32, field: usize, value: u32)
     requires { field < 20 }
     ensures { nodes.new ≡ with_node_field nodes.old place field value }

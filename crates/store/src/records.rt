@@ -18,6 +18,7 @@ pub fn is_live(bands: &[u32], number: u32) -> bool
 }
 
 // The band that the place of a number says, live or not.
+#[tactic(auto, unfolding(crate::specs::SaidProfile::said_band))]
 pub fn band_at(bands: &[u32], number: u32) -> Band
     ensures { said result ≡ said_band bands.now number }
 {
@@ -32,6 +33,7 @@ pub fn band_at(bands: &[u32], number: u32) -> Band
 }
 
 // The fields of the place of the band's number are stored: whether it is live, and the band's. A free place has zeros, as the band of zeros.
+#[tactic(auto, unfolding(crate::specs::WithBand::with_fields))]
 fn put_fields(bands: &mut [u32], live: bool, band: Band)
     ensures { bands.new ≡ with_fields
         band.number
@@ -62,6 +64,7 @@ fn put_fields(bands: &mut [u32], live: bool, band: Band)
 }
 
 // Lays a band in the place of its number.
+#[tactic(auto, unfolding(crate::specs::WithBand::with_place_of))]
 pub fn put_band(bands: &mut [u32], band: Band)
     ensures { bands.new ≡ with_place_of (some (said band)) band.number bands.old }
 {
@@ -69,6 +72,7 @@ pub fn put_band(bands: &mut [u32], band: Band)
 }
 
 // Frees the place of a number.
+#[tactic(auto, unfolding(crate::specs::WithBand::with_place_of))]
 pub fn drop_band(bands: &mut [u32], number: u32)
     ensures { bands.new ≡ with_place_of none number bands.old }
 {

@@ -1,8 +1,0 @@
--- `store::records::drop_band` meets its contract.
--- Assumes nothing.
-use Rattle.store.specs.WithBand.{with_place_of}
-use Rattle.store.proofs.records.drop_band.Goals as goal
-
-pub returns : goal.returns
-unfolding with_place_of
-returns c = c.put_fields.ensures
