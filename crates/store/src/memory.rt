@@ -24,7 +24,8 @@ pub struct MemoryMut<'a> {
 }
 
 impl Memory<'_> {
-    // Whether the slices have lengths that make a room. Tests are joined by `&`, which does not branch.
+    // Whether the slices have lengths that make a room. Tests are joined by `&`, which does not branch: so one answer proves them all, where `&&` has one
+    // for each.
     pub fn sizes_right(self) -> bool
         ensures { result ≡ sizes_right (lengths_in (words_in self.entry)) }
     {
