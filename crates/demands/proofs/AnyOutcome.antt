@@ -74,9 +74,9 @@ empty_outcome m =
           change_ends m (empty_refusal (sizes_right (lengths_in m))) empty_profile (empty_fitting m) (empty_makes m right).accepted number h (λ b i. absurd i);
     }
 
-pub any_empty_outcome : (κs : Lfts 3) (given left : LentToChange (Unit {0})) (a : Result Unit Refusal) → empty_promise κs given a left
+pub any_empty_outcome : (κs : Lfts 2) (given left : LentToChange (Unit {0})) (a : Result Unit Refusal) → empty_promise κs given a left
     → EmptyOutcome (memory_to_change given) (came_of_change a left)
-any_empty_outcome κs given left a meets = subst (EmptyOutcome (memory_to_change given)) (sym meets) (empty_outcome (memory_to_change given))
+any_empty_outcome κs given left a meets = subst (EmptyOutcome (memory_to_change given)) (sym meets.0) (empty_outcome (memory_to_change given))
 
 -- ---- inserting a band
 
@@ -120,10 +120,10 @@ insert_outcome m b lo hi =
       alone = insert_alone m b lo hi;
     }
 
-pub any_insert_outcome : (κs : Lfts 3) (given left : LentToChange (Entry × Unit {0})) (a : Result Unit Refusal) → insert_promise κs given a left
+pub any_insert_outcome : (κs : Lfts 2) (given left : LentToChange (Entry × Unit {0})) (a : Result Unit Refusal) → insert_promise κs given a left
     → InsertOutcome (memory_to_change given) (said (also_given given).0.band) (also_given given).0.low_level (also_given given).0.high_level (came_of_change a left)
 any_insert_outcome κs given left a meets =
-    subst (InsertOutcome (memory_to_change given) (said (also_given given).0.band) (also_given given).0.low_level (also_given given).0.high_level) (sym meets) (insert_outcome _ _ _ _)
+    subst (InsertOutcome (memory_to_change given) (said (also_given given).0.band) (also_given given).0.low_level (also_given given).0.high_level) (sym meets.0) (insert_outcome _ _ _ _)
 
 -- ---- removing a band
 
@@ -163,7 +163,7 @@ remove_outcome m number scope =
       alone = remove_alone m number scope;
     }
 
-pub any_remove_outcome : (κs : Lfts 3) (given left : LentToChange (ℕ × (ℕ × Unit {0}))) (a : Result Unit Refusal) → remove_promise κs given a left
+pub any_remove_outcome : (κs : Lfts 2) (given left : LentToChange (ℕ × (ℕ × Unit {0}))) (a : Result Unit Refusal) → remove_promise κs given a left
     → RemoveOutcome (memory_to_change given) (also_given given).0 (also_given given).1.0 (came_of_change a left)
 any_remove_outcome κs given left a meets =
-    subst (RemoveOutcome (memory_to_change given) (also_given given).0 (also_given given).1.0) (sym meets) (remove_outcome _ _ _)
+    subst (RemoveOutcome (memory_to_change given) (also_given given).0 (also_given given).1.0) (sym meets.0) (remove_outcome _ _ _)

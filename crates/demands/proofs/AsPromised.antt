@@ -36,7 +36,7 @@ as_answered : {A B C : Type 0} (said : A → B) (zeros : B) (r : Result A Refusa
 as_answered said zeros (Ok a) after met = ap (λ o. leaving o.told.refusal o.after) met
 as_answered said zeros (Err r) after met = ap (λ o. leaving o.told.refusal o.after) met
 
-module _ (κs : Lfts 3) where
+module _ (κs : Lfts 1) where
   -- the check says yes or no, and is never refused
   pub check_as_promised : (given after : Lent (Unit {0})) (answer : Bool) → CheckPromise κs given answer after
       → leaving 0 (lent_memory after) ≡ call_in (lent_memory given) checking
