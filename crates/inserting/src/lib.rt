@@ -1,51 +1,81 @@
 // A call that changes: inserting a band.
 #![tactic(auto)]
 
-ghost use Rattle.std.specs.Prelude.{◌≡◌};
+ghost use Rattle.std.specs.Prelude.{◌≡◌, replicate, ◌*◌};
+ghost use Rattle.rules.specs.Changes.{inserted};
 ghost use Rattle.hall.specs.Says.{answer_says};
 ghost use Rattle.hall.specs.SaidBand.{said};
-ghost use Rattle.store.specs.Memory.{lent};
+ghost use Rattle.store.specs.Sizes.{band_places, band_place_words};
+ghost use Rattle.store.specs.SaidProfile.{said_profile};
+ghost use Rattle.drafting.specs.NodeDraft.{draft_words};
+ghost use Rattle.drafting.specs.Drafts.{Drafts};
+ghost use Rattle.store.specs.LentMemory.{words_in, words_in_mut, StillLent};
 ghost use Rattle.inserting.specs.InsertCall.{insert_in, insert_judged};
 ghost use Rattle.store.specs.Came.{came};
 
 use hall::{Answer, Entry, Refusal};
+use store::{Memory, MemoryMut};
 
 // Makes a band live, with nodes at its ends of the levels given where none stands there. All of memory is checked first; 11 and 12 are judged on a
 // draft, so that a refused insert leaves every word as it was.
-pub fn insert(bands: &mut [u32], nodes: &mut [u32], marks: &mut [u32], entry: Entry) -> Answer
-    ensures { came result bands.new nodes.new marks.new
-        ≡ insert_in (lent bands.old nodes.old marks.old) (said entry.band) entry.low_level entry.high_level }
+pub fn insert(memory: &mut MemoryMut<'_>, entry: Entry) -> Answer
+    ensures inserts { came result (words_in_mut memory.new)
+        ≡ insert_in (words_in_mut memory.old) (said entry.band) entry.low_level entry.high_level }
+    ensures lent { StillLent memory.old memory.new }
 {
-    judge(bands, nodes, marks, entry)?;
-    insert_judged(bands, nodes, marks, entry)
+    judge(memory.to_ask(), entry)?;
+    insert_judged(memory, entry)
 }
 
 // Judges 1 to 8, which need no draft.
-fn judge(bands: &[u32], nodes: &[u32], marks: &[u32], entry: Entry) -> Answer
+fn judge(memory: Memory<'_>, entry: Entry) -> Answer
     ensures { answer_says result
-        ≡ insert_judged (lent bands.now nodes.now marks.now) (said entry.band) entry.low_level entry.high_level }
+        ≡ insert_judged (words_in memory.entry) (said entry.band) entry.low_level entry.high_level }
 {
-    if !checking::check(bands, nodes, marks) {
+    if !checking::check(memory) {
         return Err(Refusal::MemoryUnfit);
     }
     entry.fault()?;
-    if store::is_live(bands, entry.band.number) {
+    if store::is_live(memory.bands, entry.band.number) {
         return Err(Refusal::NumberLive);
     }
     Ok(())
 }
 
-// The rest of an insert that 1 to 8 do not refuse, with words to draft in: what stands, then the entry put to it. Insert and remove share no helper
-// for that: what each does between copy and commit would be a closure, with a contract longer than its two calls.
-fn insert_judged(bands: &mut [u32], nodes: &mut [u32], marks: &mut [u32], entry: Entry) -> Answer
-    requires { insert_judged (lent bands.old nodes.old marks.old) (said entry.band) entry.low_level entry.high_level ≡ 0 }
-    ensures { came result bands.new nodes.new marks.new
-        ≡ insert_in (lent bands.old nodes.old marks.old) (said entry.band) entry.low_level entry.high_level }
+// The rest of an insert that 1 to 8 do not refuse, with words to draft in. Insert and remove share no helper for that: how each drafts would be a
+// closure, with a contract longer than its calls.
+fn insert_judged(memory: &mut MemoryMut<'_>, entry: Entry) -> Answer
+    requires { insert_judged (words_in_mut memory.old) (said entry.band) entry.low_level entry.high_level ≡ 0 }
+    ensures inserts { came result (words_in_mut memory.new)
+        ≡ insert_in (words_in_mut memory.old) (said entry.band) entry.low_level entry.high_level }
+    ensures lent { StillLent memory.old memory.new }
 {
     let mut draft_bands = [0u32; store::BAND_WORDS];
     let mut draft_nodes = [0u32; drafting::DRAFT_WORDS];
-    store::copy(bands, &mut draft_bands);
-    drafting::keep_ends(&draft_bands, nodes, &mut draft_nodes);
-    drafting::put_entry(&mut draft_bands, &mut draft_nodes, entry);
-    committing::commit(&draft_bands, &mut draft_nodes, bands, nodes, marks)
+    draft(memory.to_ask(), entry, &mut draft_bands, &mut draft_nodes);
+    committing::commit(&draft_bands, &mut draft_nodes, memory)
+}
+
+// What stands, then the entry put to it.
+fn draft(
+    memory: Memory<'_>,
+    entry: Entry,
+    draft_bands: &mut [u32; store::BAND_WORDS],
+    draft_nodes: &mut [u32; drafting::DRAFT_WORDS],
+)
+    requires { (insert_judged
+        (words_in memory)
+        (said entry.band)
+        entry.low_level
+        entry.high_level ≡ 0)
+        × (draft_bands.old ≡ replicate (band_places * band_place_words) 0)
+        × (draft_nodes.old ≡ replicate draft_words 0) }
+    ensures { Drafts
+        (inserted (said_profile (words_in memory.entry)) (said entry.band) entry.low_level entry.high_level)
+        draft_bands.new
+        draft_nodes.new }
+{
+    store::copy(memory.bands, draft_bands);
+    drafting::keep_ends(draft_bands, memory.nodes, draft_nodes);
+    drafting::put_entry(draft_bands, draft_nodes, entry);
 }

@@ -11,5 +11,5 @@ use Rattle.store.proofs.LentWords.{LentToChange, SameWordsLeft}
 use Rattle.store.proofs.ToldBack.{change_told_back}
 use Rattle.removing.proofs.remove.Reads.{Post as promise}
 
-pub remove_settled : (κs : Lfts 3) (given x y : LentToChange (ℕ × (ℕ × Unit {0}))) (a b : Result Unit Refusal) → promise κs given a x → promise κs given b y → (a ≡ b) × SameWordsLeft x y
-remove_settled κs given x y a b p q = change_told_back a b _ _ _ _ _ _ p q
+pub remove_settled : (κs : Lfts 2) (given x y : LentToChange (ℕ × (ℕ × Unit {0}))) (a b : Result Unit Refusal) → promise κs given a x → promise κs given b y → (a ≡ b) × SameWordsLeft x y
+remove_settled κs given x y a b p q = change_told_back a b _ _ p.0 q.0

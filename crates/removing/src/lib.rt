@@ -1,35 +1,36 @@
 // A call that changes: removing a band.
 #![tactic(auto)]
 
-ghost use Rattle.std.specs.Prelude.{◌≡◌};
+ghost use Rattle.std.specs.Prelude.{◌≡◌, true, replicate, ◌*◌, ◌<◌};
+ghost use Rattle.rules.specs.Changes.{removed};
 ghost use Rattle.hall.specs.Says.{answer_says};
-ghost use Rattle.store.specs.Memory.{lent};
+ghost use Rattle.store.specs.Sizes.{band_places, band_place_words};
+ghost use Rattle.store.specs.SaidProfile.{said_profile};
+ghost use Rattle.store.specs.Sound.{sound};
+ghost use Rattle.drafting.specs.NodeDraft.{draft_words};
+ghost use Rattle.drafting.specs.Drafts.{Drafts};
+ghost use Rattle.store.specs.LentMemory.{words_in, words_in_mut, StillLent};
 ghost use Rattle.removing.specs.RemoveCall.{remove_in, remove_judged};
 ghost use Rattle.store.specs.Came.{came};
 
 use hall::{Answer, Band, Refusal};
+use store::{Memory, MemoryMut};
 
 // Ends the band of a number, and drops each node at which no band ends any more. All of memory is checked first; 12 is judged on a draft, so that a
 // refused remove leaves every word as it was.
-pub fn remove(
-    bands: &mut [u32],
-    nodes: &mut [u32],
-    marks: &mut [u32],
-    number: u32,
-    scope: u32,
-) -> Answer
-    ensures { came result bands.new nodes.new marks.new
-        ≡ remove_in (lent bands.old nodes.old marks.old) number scope }
+pub fn remove(memory: &mut MemoryMut<'_>, number: u32, scope: u32) -> Answer
+    ensures removes { came result (words_in_mut memory.new) ≡ remove_in (words_in_mut memory.old) number scope }
+    ensures lent { StillLent memory.old memory.new }
 {
-    judge(bands, nodes, marks, number, scope)?;
-    remove_judged(bands, nodes, marks, number, scope)
+    judge(memory.to_ask(), number, scope)?;
+    remove_judged(memory, number, scope)
 }
 
 // Judges 1, 2, 3, 9 and 10, which need no draft.
-fn judge(bands: &[u32], nodes: &[u32], marks: &[u32], number: u32, scope: u32) -> Answer
-    ensures { answer_says result ≡ remove_judged (lent bands.now nodes.now marks.now) number scope }
+fn judge(memory: Memory<'_>, number: u32, scope: u32) -> Answer
+    ensures { answer_says result ≡ remove_judged (words_in memory.entry) number scope }
 {
-    if !checking::check(bands, nodes, marks) {
+    if !checking::check(memory) {
         return Err(Refusal::MemoryUnfit);
     }
     if Band::HOUSE < scope {
@@ -38,32 +39,41 @@ fn judge(bands: &[u32], nodes: &[u32], marks: &[u32], number: u32, scope: u32) -
     if Band::HIGHEST_NUMBER < number {
         return Err(Refusal::NumberAbove);
     }
-    if !store::is_live(bands, number) {
+    if !store::is_live(memory.bands, number) {
         return Err(Refusal::NumberNotLive);
     }
-    if store::band_at(bands, number).scope != scope {
+    if store::band_at(memory.bands, number).scope != scope {
         return Err(Refusal::ScopeOther);
     }
     Ok(())
 }
 
-// The rest of a remove that 1, 2, 3, 9 and 10 do not refuse, with words to draft in: the bands that are left, then the nodes at their ends.
-// (Why an insert has a function of its own for that: there.)
-fn remove_judged(
-    bands: &mut [u32],
-    nodes: &mut [u32],
-    marks: &mut [u32],
-    number: u32,
-    scope: u32,
-) -> Answer
-    requires { remove_judged (lent bands.old nodes.old marks.old) number scope ≡ 0 }
-    ensures { came result bands.new nodes.new marks.new
-        ≡ remove_in (lent bands.old nodes.old marks.old) number scope }
+// The rest of a remove that 1, 2, 3, 9 and 10 do not refuse, with words to draft in. (Why an insert has a function of its own for that: there.)
+fn remove_judged(memory: &mut MemoryMut<'_>, number: u32, scope: u32) -> Answer
+    requires { remove_judged (words_in_mut memory.old) number scope ≡ 0 }
+    ensures removes { came result (words_in_mut memory.new) ≡ remove_in (words_in_mut memory.old) number scope }
+    ensures lent { StillLent memory.old memory.new }
 {
     let mut draft_bands = [0u32; store::BAND_WORDS];
     let mut draft_nodes = [0u32; drafting::DRAFT_WORDS];
-    store::copy(bands, &mut draft_bands);
-    store::drop_band(&mut draft_bands, number);
-    drafting::keep_ends(&draft_bands, nodes, &mut draft_nodes);
-    committing::commit(&draft_bands, &mut draft_nodes, bands, nodes, marks)
+    draft(memory.to_ask(), number, &mut draft_bands, &mut draft_nodes);
+    committing::commit(&draft_bands, &mut draft_nodes, memory)
+}
+
+// The bands that are left, then the nodes at their ends.
+fn draft(
+    memory: Memory<'_>,
+    number: u32,
+    draft_bands: &mut [u32; store::BAND_WORDS],
+    draft_nodes: &mut [u32; drafting::DRAFT_WORDS],
+)
+    requires { (sound (words_in memory) ≡ true)
+        × (number < band_places)
+        × (draft_bands.old ≡ replicate (band_places * band_place_words) 0)
+        × (draft_nodes.old ≡ replicate draft_words 0) }
+    ensures { Drafts (removed (said_profile (words_in memory.entry)) number) draft_bands.new draft_nodes.new }
+{
+    store::copy(memory.bands, draft_bands);
+    store::drop_band(draft_bands, number);
+    drafting::keep_ends(draft_bands, memory.nodes, draft_nodes);
 }

@@ -1,28 +1,24 @@
--- `inserting::insert_judged` meets its contract: what stands in sound memory is drafted, the entry is put to it, and what comes of the draft is the
--- insert.
+-- `inserting::insert_judged` meets its contract: the insert is drafted, and what comes of the draft is the insert.
 -- Assumes nothing.
-use mathlib.Core.Path.{refl, ◌∙◌}
+use mathlib.Core.Path.{refl, ap, ◌∙◌}
+use Rattle.rules.specs.Changes.{inserted}
+use Rattle.hall.specs.SaidBand.{said}
+use Rattle.store.specs.SaidProfile.{said_profile}
+use Rattle.store.specs.LentMemory.{words_in_mut}
 use Rattle.store.proofs.Sound.{sound_means}
-use Rattle.drafting.proofs.WhatStays.{all_stay}
-use Rattle.inserting.proofs.InsertSteps.{insert_on_sound, entry_right, number_free, insert_committed}
+use Rattle.committing.specs.Committed.{committed}
+use Rattle.inserting.specs.InsertCall.{insert_judged}
+use Rattle.inserting.proofs.InsertSteps.{insert_on_sound, insert_committed}
 use Rattle.inserting.proofs.insert_judged.Goals as goal
 
-pub keep_ends-requires : goal.keep_ends-requires
-keep_ends-requires c =
-    ((_, all_stay _ (insert_on_sound _ _ _ _ c.requires) refl c.copy.ensures), refl)
-
-pub put_entry-requires : goal.put_entry-requires
-put_entry-requires c =
-    let left = all_stay _ (insert_on_sound _ _ _ _ c.requires) refl c.copy.ensures in
-    (_, c.keep_ends.ensures _ left, entry_right _ _ _ _ c.requires, number_free _ _ _ _ c.requires)
+pub draft-requires : goal.draft-requires
+draft-requires c = (ap (λ m. insert_judged m (said c.args.entry.band) c.args.entry.low_level c.args.entry.high_level) c.to_ask.ensures ∙ c.requires, refl, refl)
 
 pub commit-requires : goal.commit-requires
-commit-requires c =
-    let sound = insert_on_sound _ _ _ _ c.requires in
-    let left = all_stay _ sound refl c.copy.ensures in
-    (((sound_means _).fact sound).sizes, (_, c.put_entry.ensures _ (c.keep_ends.ensures _ left)))
+commit-requires c = (((sound_means _).fact (insert_on_sound _ _ _ _ c.requires)).sizes, (_, c.draft.ensures))
 
-pub returns : goal.returns
-returns c =
-    let left = all_stay _ (insert_on_sound _ _ _ _ c.requires) refl c.copy.ensures in
-    c.commit.ensures _ (c.put_entry.ensures _ (c.keep_ends.ensures _ left)) ∙ insert_committed _ _ _ _ c.requires
+pub returns-clause-inserts : goal.returns-clause-inserts
+returns-clause-inserts c =
+    c.commit.ensures.commits _ c.draft.ensures
+    ∙ ap (λ m. committed (words_in_mut c.args.memory.now) (inserted (said_profile m) (said c.args.entry.band) c.args.entry.low_level c.args.entry.high_level)) c.to_ask.ensures
+    ∙ insert_committed _ _ _ _ c.requires

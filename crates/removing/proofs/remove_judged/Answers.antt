@@ -1,24 +1,23 @@
--- `removing::remove_judged` meets its contract: what stands in sound memory without the number is drafted, and what comes of the draft is the remove.
+-- `removing::remove_judged` meets its contract: the remove is drafted, and what comes of the draft is the remove.
 -- Assumes nothing.
-use mathlib.Core.Path.{refl, ◌∙◌}
+use mathlib.Core.Path.{refl, ap, ◌∙◌}
+use Rattle.rules.specs.Changes.{removed}
+use Rattle.store.specs.SaidProfile.{said_profile}
+use Rattle.store.specs.Sound.{sound}
+use Rattle.store.specs.LentMemory.{words_in_mut}
 use Rattle.store.proofs.Sound.{sound_means}
-use Rattle.drafting.proofs.WhatStays.{all_but_number}
+use Rattle.committing.specs.Committed.{committed}
 use Rattle.removing.proofs.RemoveSteps.{remove_on_sound, number_has_place, remove_committed}
 use Rattle.removing.proofs.remove_judged.Goals as goal
 
-pub keep_ends-requires : goal.keep_ends-requires
-keep_ends-requires c =
-    let sound = remove_on_sound _ _ _ c.requires in
-    ((_, all_but_number _ sound _ (number_has_place _ _ _ c.requires) refl c.copy.ensures c.drop_band.ensures), refl)
+pub draft-requires : goal.draft-requires
+draft-requires c = (ap sound c.to_ask.ensures ∙ remove_on_sound _ _ _ c.requires, number_has_place _ _ _ c.requires, refl, refl)
 
 pub commit-requires : goal.commit-requires
-commit-requires c =
-    let sound = remove_on_sound _ _ _ c.requires in
-    let left = all_but_number _ sound _ (number_has_place _ _ _ c.requires) refl c.copy.ensures c.drop_band.ensures in
-    (((sound_means _).fact sound).sizes, (_, c.keep_ends.ensures _ left))
+commit-requires c = (((sound_means _).fact (remove_on_sound _ _ _ c.requires)).sizes, (_, c.draft.ensures))
 
-pub returns : goal.returns
-returns c =
-    let sound = remove_on_sound _ _ _ c.requires in
-    let left = all_but_number _ sound _ (number_has_place _ _ _ c.requires) refl c.copy.ensures c.drop_band.ensures in
-    c.commit.ensures _ (c.keep_ends.ensures _ left) ∙ remove_committed _ _ _ c.requires
+pub returns-clause-removes : goal.returns-clause-removes
+returns-clause-removes c =
+    c.commit.ensures.commits _ c.draft.ensures
+    ∙ ap (λ m. committed (words_in_mut c.args.memory.now) (removed (said_profile m) c.args.number)) c.to_ask.ensures
+    ∙ remove_committed _ _ _ c.requires
