@@ -20,6 +20,7 @@ pub struct Found {
 const MOST_LOOKS: u32 = 2056;
 
 // In each lane the search steps on while the next node is below the key, and takes the edge's marks as it drops if the next is above.
+// (That the marks are no more than there can be is asked here and where marks are read: a kind of its own for marks would be unpacked in each of these.)
 pub fn search(nodes: &[u32], marks: &[u32], key: Key) -> Found
     requires { length marks.now ≤ most_marks }
     ensures { result ≡ found_of (search_of nodes.now marks.now key.0) }

@@ -11,6 +11,7 @@ pub fn place_of(nodes: &[u32], key: Key) -> Option<u32>
     ensures node { IfSome result (λ place. 0 < place) }
 {
     let in_use = places_in_use(nodes);
+    // (usize: the place past the last need not be a u32)
     let mut low = store::HEADER as usize;
     let mut high = in_use as usize + 1;
     while low + 1 < high {
