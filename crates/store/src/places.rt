@@ -49,7 +49,8 @@ pub const MARKS_IN_USE: usize = 10;
 
 pub const LANES: usize = 8;
 
-// A field of a band's place.
+// A field of a band's place. (That of a node place is the same but for the words of a place: one function over that number, `place_word::<8>(..)`, would
+// say at each of its calls by a number what these say by their names.)
 #[tactic(auto, unfolding(crate::specs::Places::band_field))]
 pub fn band_word(bands: &[u32], number: u32, field: usize) -> u32
     requires { field < 8 }
