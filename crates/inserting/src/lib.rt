@@ -13,6 +13,7 @@ ghost use Rattle.store.specs.LentMemory.{words_in, words_in_mut, StillLent};
 ghost use Rattle.inserting.specs.InsertCall.{insert_in, insert_judged};
 ghost use Rattle.store.specs.Came.{came};
 
+use drafting::Draft;
 use hall::{Answer, Entry, Refusal};
 use store::{Memory, MemoryMut};
 
@@ -50,32 +51,29 @@ fn insert_judged(memory: &mut MemoryMut<'_>, entry: Entry) -> Answer
         ≡ insert_in (words_in_mut memory.old) (said entry.band) entry.low_level entry.high_level }
     ensures lent { StillLent memory.old memory.new }
 {
-    let mut draft_bands = [0u32; store::BAND_WORDS];
-    let mut draft_nodes = [0u32; drafting::DRAFT_WORDS];
-    draft(memory.to_ask(), entry, &mut draft_bands, &mut draft_nodes);
-    committing::commit(&draft_bands, &mut draft_nodes, memory)
+    let mut drafted = Draft {
+        bands: [0; store::BAND_WORDS],
+        nodes: [0; drafting::DRAFT_WORDS],
+    };
+    draft(memory.to_ask(), entry, &mut drafted);
+    committing::commit(&mut drafted, memory)
 }
 
 // What stands, then the entry put to it.
-fn draft(
-    memory: Memory<'_>,
-    entry: Entry,
-    draft_bands: &mut [u32; store::BAND_WORDS],
-    draft_nodes: &mut [u32; drafting::DRAFT_WORDS],
-)
+fn draft(memory: Memory<'_>, entry: Entry, into: &mut Draft)
     requires { (insert_judged
         (words_in memory)
         (said entry.band)
         entry.low_level
         entry.high_level ≡ 0)
-        × (draft_bands.old ≡ replicate (band_places * band_place_words) 0)
-        × (draft_nodes.old ≡ replicate draft_words 0) }
+        × (into.old.bands ≡ replicate (band_places * band_place_words) 0)
+        × (into.old.nodes ≡ replicate draft_words 0) }
     ensures { Drafts
         (inserted (said_profile (words_in memory.entry)) (said entry.band) entry.low_level entry.high_level)
-        draft_bands.new
-        draft_nodes.new }
+        into.new.bands
+        into.new.nodes }
 {
-    store::copy(memory.bands, draft_bands);
-    drafting::keep_ends(draft_bands, memory.nodes, draft_nodes);
-    drafting::put_entry(draft_bands, draft_nodes, entry);
+    store::copy(memory.bands, &mut into.bands);
+    into.keep_ends(memory.nodes);
+    into.put_entry(entry);
 }

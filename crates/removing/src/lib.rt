@@ -13,6 +13,7 @@ ghost use Rattle.store.specs.LentMemory.{words_in, words_in_mut, StillLent};
 ghost use Rattle.removing.specs.RemoveCall.{remove_in, remove_judged};
 ghost use Rattle.store.specs.Came.{came};
 
+use drafting::Draft;
 use hall::{Answer, Band, Refusal};
 use store::{Memory, MemoryMut};
 
@@ -54,26 +55,23 @@ fn remove_judged(memory: &mut MemoryMut<'_>, number: u32, scope: u32) -> Answer
     ensures removes { came result (words_in_mut memory.new) ≡ remove_in (words_in_mut memory.old) number scope }
     ensures lent { StillLent memory.old memory.new }
 {
-    let mut draft_bands = [0u32; store::BAND_WORDS];
-    let mut draft_nodes = [0u32; drafting::DRAFT_WORDS];
-    draft(memory.to_ask(), number, &mut draft_bands, &mut draft_nodes);
-    committing::commit(&draft_bands, &mut draft_nodes, memory)
+    let mut drafted = Draft {
+        bands: [0; store::BAND_WORDS],
+        nodes: [0; drafting::DRAFT_WORDS],
+    };
+    draft(memory.to_ask(), number, &mut drafted);
+    committing::commit(&mut drafted, memory)
 }
 
 // The bands that are left, then the nodes at their ends.
-fn draft(
-    memory: Memory<'_>,
-    number: u32,
-    draft_bands: &mut [u32; store::BAND_WORDS],
-    draft_nodes: &mut [u32; drafting::DRAFT_WORDS],
-)
+fn draft(memory: Memory<'_>, number: u32, into: &mut Draft)
     requires { (sound (words_in memory) ≡ true)
         × (number < band_places)
-        × (draft_bands.old ≡ replicate (band_places * band_place_words) 0)
-        × (draft_nodes.old ≡ replicate draft_words 0) }
-    ensures { Drafts (removed (said_profile (words_in memory.entry)) number) draft_bands.new draft_nodes.new }
+        × (into.old.bands ≡ replicate (band_places * band_place_words) 0)
+        × (into.old.nodes ≡ replicate draft_words 0) }
+    ensures { Drafts (removed (said_profile (words_in memory.entry)) number) into.new.bands into.new.nodes }
 {
-    store::copy(memory.bands, draft_bands);
-    store::drop_band(draft_bands, number);
-    drafting::keep_ends(draft_bands, memory.nodes, draft_nodes);
+    store::copy(memory.bands, &mut into.bands);
+    store::drop_band(&mut into.bands, number);
+    into.keep_ends(memory.nodes);
 }
