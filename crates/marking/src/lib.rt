@@ -2,10 +2,12 @@
 #![tactic(auto)]
 
 mod counting;
+mod profile;
 mod putting;
 mod starting;
 mod walking;
 
 pub use counting::{MOST_CURSORS, count};
+pub use profile::Profile;
 pub use putting::lay;
 pub use starting::to_starts;

@@ -5,11 +5,12 @@ ghost use Rattle.std.proofs.lemmas.List.Edits.{sets};
 ghost use Rattle.rules.specs.NodesLanesEdges.{lanes};
 ghost use Rattle.rules.specs.Room.{most_nodes};
 ghost use Rattle.hall.specs.SaidBand.{said};
-ghost use Rattle.store.specs.Places.{node_field, link_field, in_use};
+ghost use Rattle.store.specs.Places.{node_field, link_field};
 ghost use Rattle.marking.specs.WordWalk.{leads_within, stair_at, stair_to, visited, walked, slots_of};
 ghost use Rattle.marking.specs.Stairs.{stair_slot, stair_next};
 ghost use Rattle.marking.specs.Staircases.{most_visited};
 
+use crate::profile::Profile;
 use hall::{Band, Key};
 
 // The most slots that one walk visits.
@@ -80,10 +81,10 @@ fn visit(
 }
 
 // Writes the slots of one band, and answers how many they are.
-fn walk(nodes: &[u32], band: Band, slots: &mut [u32; MOST_VISITED]) -> usize
-    requires { in_use nodes.now ≤ most_nodes }
-    ensures { (take result slots.new ≡ walked nodes.now (said band)) × (result ≤ most_visited) }
+fn walk(profile: Profile<'_>, band: Band, slots: &mut [u32; MOST_VISITED]) -> usize
+    ensures { (take result slots.new ≡ walked profile.entry.nodes.now (said band)) × (result ≤ most_visited) }
 {
+    let nodes = profile.nodes;
     let mut count = 0;
     let mut here = search::place_of(nodes, band.low);
     while let Some(place) = here {
@@ -96,18 +97,16 @@ fn walk(nodes: &[u32], band: Band, slots: &mut [u32; MOST_VISITED]) -> usize
 
 // The slots of the band of a number, written there; none where the number is not live.
 pub(crate) fn slots_of<'a>(
-    bands: &[u32],
-    nodes: &[u32],
+    profile: Profile<'_>,
     number: u32,
     slots: &'a mut [u32; MOST_VISITED],
 ) -> &'a [u32]
-    requires { in_use nodes.now ≤ most_nodes }
-    ensures { (result.now ≡ slots_of bands.now nodes.now number)
+    ensures { (result.now ≡ slots_of profile.entry.bands.now profile.entry.nodes.now number)
         × (length result.now ≤ most_visited) }
 {
-    if !store::is_live(bands, number) {
+    if !store::is_live(profile.bands, number) {
         return &[];
     }
-    let count = walk(nodes, store::band_at(bands, number), slots);
+    let count = walk(profile, store::band_at(profile.bands, number), slots);
     &slots[..count]
 }

@@ -18,7 +18,7 @@ visit-count-requires c =
     let node = rw c.in-Some.is at c.loop-here.invariant.node in
     let mid = rw c.in-Some.is at c.loop-here.invariant.midway in
     let within = count_within _ _ mid in
-    let most = walked_within _ (said c.args.band) c.requires in
+    let most = walked_within _ (said c.args.band) c.args.profile.few in
     (omega arith, omega (arith, mid.in_use_lem), omega arith, c.stair_at-stair.ensures.lane)
 
 pub loop-here-smaller : goal.loop-here-smaller
@@ -41,4 +41,4 @@ loop-here-preserved c =
     }
 
 pub returns : goal.returns
-returns c = all_written _ _ c.loop-here.invariant.midway c.requires (omega arith) (ap place_said c.in_default.is)
+returns c = all_written _ _ c.loop-here.invariant.midway c.args.profile.few (omega arith) (ap place_said c.in_default.is)
