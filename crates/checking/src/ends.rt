@@ -2,7 +2,8 @@
 ghost use Rattle.std.specs.Prelude.{◌≡◌, ◌≤◌};
 ghost use Rattle.rules.specs.Room.{most_nodes};
 ghost use Rattle.checking.specs.Ends.{ends_match, all_noted};
-ghost use Rattle.store.specs.Places.{in_use};
+
+use marking::Profile;
 
 // Whether each node place in use is noted.
 fn all_noted(found: &[u32; linking::MOST_PLACES], in_use: u32) -> bool
@@ -16,12 +17,11 @@ fn all_noted(found: &[u32; linking::MOST_PLACES], in_use: u32) -> bool
 // Its array is large, so it keeps a frame of its own (`check` says why).
 #[inline(never)]
 #[tactic(auto, using(crate::proofs::Joined::joined), unfolding(crate::specs::Ends::ends_match))]
-pub(crate) fn ends_match(bands: &[u32], nodes: &[u32]) -> bool
-    requires { in_use nodes.now ≤ most_nodes }
-    ensures { result ≡ ends_match bands.now nodes.now }
+pub(crate) fn ends_match(profile: Profile<'_>) -> bool
+    ensures { result ≡ ends_match profile.entry.bands.now profile.entry.nodes.now }
 {
     let mut found = [0; linking::MOST_PLACES];
-    let in_use = store::node_word(nodes, store::HEADER, store::NODES_IN_USE);
-    let placed = linking::note_ends(bands, nodes, &mut found);
+    let in_use = store::node_word(profile.nodes, store::HEADER, store::NODES_IN_USE);
+    let placed = linking::note_ends(profile.bands, profile.nodes, &mut found);
     placed && all_noted(&found, in_use)
 }

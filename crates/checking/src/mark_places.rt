@@ -2,7 +2,8 @@
 ghost use Rattle.std.specs.Prelude.{◌≡◌, ◌≤◌, length};
 ghost use Rattle.rules.specs.Room.{most_nodes, most_marks};
 ghost use Rattle.checking.specs.MarkPlaces.{marks_in_use_right, marks_right, place_fences_at, fences_at, marks_as_laid};
-ghost use Rattle.store.specs.Places.{in_use};
+
+use marking::Profile;
 
 // Whether there is room for so many marks, and the header counts them.
 fn marks_in_use_right(nodes: &[u32], room: usize, count: usize) -> bool
@@ -23,45 +24,44 @@ fn place_fences_at(nodes: &[u32], starts: &[u32; marking::MOST_CURSORS], place: 
 }
 
 // Whether all fences are the starts of their slots.
-fn fences_at(nodes: &[u32], starts: &[u32; marking::MOST_CURSORS]) -> bool
-    requires { in_use nodes.now ≤ most_nodes }
-    ensures { result ≡ fences_at nodes.now starts.now }
+fn fences_at(profile: Profile<'_>, starts: &[u32; marking::MOST_CURSORS]) -> bool
+    ensures { result ≡ fences_at profile.entry.nodes.now starts.now }
 {
+    let nodes = profile.nodes;
     let in_use = store::node_word(nodes, store::HEADER, store::NODES_IN_USE);
     (1..=in_use).all(|place| place_fences_at(nodes, starts, place))
 }
 
 // Whether the marks are those that the bands ask for, laid from these starts on.
 fn marks_as_laid(
-    bands: &[u32],
-    nodes: &[u32],
+    profile: Profile<'_>,
     marks: &[u32],
     starts: &mut [u32; marking::MOST_CURSORS],
     draft: &mut [u32; store::MOST_MARKS],
 ) -> bool
-    requires { (in_use nodes.now ≤ most_nodes) × (length marks.now ≤ most_marks) }
-    ensures { result ≡ marks_as_laid bands.now nodes.now marks.now starts.old draft.old }
+    requires { length marks.now ≤ most_marks }
+    ensures { result ≡ marks_as_laid profile.entry.bands.now profile.entry.nodes.now marks.now starts.old draft.old }
 {
-    marking::lay(bands, nodes, starts, draft);
+    marking::lay(profile, starts, draft);
     marks == &draft[..marks.len()]
 }
 
 // Whether fences, marks and the count of marks are those that the bands ask for.
 // Its arrays are large, so it keeps a frame of its own (`check` says why).
 #[inline(never)]
-pub(crate) fn marks_right(bands: &[u32], nodes: &[u32], marks: &[u32]) -> bool
-    requires { (in_use nodes.now ≤ most_nodes) × (length marks.now ≤ most_marks) }
-    ensures { result ≡ marks_right bands.now nodes.now marks.now }
+pub(crate) fn marks_right(profile: Profile<'_>, marks: &[u32]) -> bool
+    requires { length marks.now ≤ most_marks }
+    ensures { result ≡ marks_right profile.entry.bands.now profile.entry.nodes.now marks.now }
 {
     let mut cursors = [0; marking::MOST_CURSORS];
     let mut draft = [0; store::MOST_MARKS];
-    let sum = marking::count(bands, nodes, marks.len(), &mut cursors);
-    if !marks_in_use_right(nodes, marks.len(), sum) {
+    let sum = marking::count(profile, marks.len(), &mut cursors);
+    if !marks_in_use_right(profile.nodes, marks.len(), sum) {
         return false;
     }
     marking::to_starts(&mut cursors);
-    if !fences_at(nodes, &cursors) {
+    if !fences_at(profile, &cursors) {
         return false;
     }
-    marks_as_laid(bands, nodes, marks, &mut cursors, &mut draft)
+    marks_as_laid(profile, marks, &mut cursors, &mut draft)
 }

@@ -6,6 +6,7 @@ ghost use Rattle.store.specs.Came.{asked, telling};
 ghost use Rattle.store.specs.Sound.{sound};
 
 use crate::{band_places, ends, links, mark_places, node_places};
+use marking::Profile;
 use store::Memory;
 
 // Yes exactly when the memory is sound. Memory of wrong sizes is not.
@@ -20,6 +21,9 @@ pub fn check(memory: Memory<'_>) -> bool
     } = memory;
     memory.sizes_right()
         && (band_places::band_places_right(bands) && node_places::node_places_right(nodes))
-        && (ends::ends_match(bands, nodes) && links::links_right(nodes))
-        && mark_places::marks_right(bands, nodes, marks)
+        && {
+            let profile = Profile { bands, nodes };
+            (ends::ends_match(profile) && links::links_right(nodes))
+                && mark_places::marks_right(profile, marks)
+        }
 }

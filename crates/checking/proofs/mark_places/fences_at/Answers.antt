@@ -10,4 +10,4 @@ pub returns : goal.returns
 unfolding fences_at
 returns c =
     let args = c.args in
-    all_up_to (place_fences_at args.nodes.now args.starts.now) (λ x r f k. search rules) 1 (in_use args.nodes.now) _ c.all.ensures.runs c.new.ensures.start (omega arith) c.new.ensures.exhausted
+    all_up_to (place_fences_at args.profile.nodes.now args.starts.now) (λ x r f k. search rules) 1 (in_use args.profile.nodes.now) _ c.all.ensures.runs c.new.ensures.start (omega arith) c.new.ensures.exhausted

@@ -3,7 +3,6 @@
 use Prim.Native.Nat.{ℕ, ◌+◌, ◌*◌}
 use mathlib.Core.Path.{refl, sym}
 use native.Mathlib.Omega.{arith}
-use borrow.Author.Rules.{rules}
 use lib.ListN.{replicate}
 use Rattle.rules.specs.Room.{most_nodes}
 use Rattle.rules.specs.Staircase.{slots_per_node}
@@ -16,11 +15,11 @@ abbrev cursor_count : ℕ
 cursor_count = most_nodes * slots_per_node + 1
 
 pub count-sum-requires : goal.count-sum-requires
-count-sum-requires c = (search rules, zeros_have_room (replicate cursor_count 0) refl)
+count-sum-requires c = zeros_have_room (replicate cursor_count 0) refl
 
 pub returns-then-not-marks_in_use_right : goal.returns-then-not-marks_in_use_right
 returns-then-not-marks_in_use_right c =
-    sym (in_use_wrong c.args.bands.now c.args.nodes.now c.args.marks.now cursor_count c.count-sum.ensures c.marks_in_use_right.ensures c.if-not-marks_in_use_right.true)
+    sym (in_use_wrong c.args.profile.bands.now c.args.profile.nodes.now c.args.marks.now cursor_count c.count-sum.ensures c.marks_in_use_right.ensures c.if-not-marks_in_use_right.true)
 
 pub to_starts-requires : goal.to_starts-requires
 to_starts-requires c =
@@ -35,4 +34,4 @@ returns-then-not-fences_at c =
 pub returns : goal.returns
 returns c =
     marks_left _ _ _ cursor_count c.count-sum.ensures c.marks_in_use_right.ensures c.if-not-marks_in_use_right.false (omega arith)
-    c.to_starts.ensures c.fences_at.ensures c.if-not-fences_at.false c.requires.1 c.marks_as_laid.ensures
+    c.to_starts.ensures c.fences_at.ensures c.if-not-fences_at.false c.requires c.marks_as_laid.ensures

@@ -8,8 +8,8 @@ use Rattle.checking.proofs.WithinMost.{within_most}
 use Rattle.checking.proofs.TestedIsSound.{sound_as_tested}
 use Rattle.checking.proofs.whole_profile.check.Goals as goal
 
-pub ends_match-requires : goal.ends_match-requires
-ends_match-requires c = grind (arith, common_steps, within_most)
+pub invariant_of-profile : goal.invariant_of-profile
+invariant_of-profile c = grind (arith, common_steps, within_most)
 
 pub marks_right-requires : goal.marks_right-requires
 marks_right-requires c = grind (arith, common_steps, within_most)
@@ -21,3 +21,7 @@ returns-then-links_right c = grind (arith, common_steps, joined, sound_as_tested
 pub returns-else-links_right : goal.returns-else-links_right
 unfolding tested
 returns-else-links_right c = grind (arith, common_steps, joined, sound_as_tested)
+
+pub returns-else-node_places_right : goal.returns-else-node_places_right
+unfolding tested
+returns-else-node_places_right c = grind (arith, common_steps, joined, sound_as_tested)
