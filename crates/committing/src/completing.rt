@@ -11,6 +11,7 @@ ghost use Rattle.committing.specs.Committed.{starts_by};
 
 use crate::{fence_laying, link_laying};
 use hall::{Answer, Refusal};
+use marking::Profile;
 
 // Judges 11, lays the links, counts the marks and judges 12; where neither is given it completes the draft with header and fences. The cursors are then
 // the starts of the slots.
@@ -36,7 +37,11 @@ pub(crate) fn complete(
         return Err(Refusal::NodesExceed);
     }
     link_laying::lay_links(draft_nodes);
-    let sum = marking::count(draft_bands, draft_nodes, mark_room, cursors);
+    let profile = Profile {
+        bands: draft_bands,
+        nodes: draft_nodes,
+    };
+    let sum = marking::count(profile, mark_room, cursors);
     if mark_room < sum {
         return Err(Refusal::MarksExceed);
     }

@@ -33,7 +33,11 @@ fn lay_draft(draft: &Draft, starts: &mut [u32; marking::MOST_CURSORS], memory: &
     store::copy(&draft.bands, memory.bands);
     store::copy(&draft.nodes, memory.nodes);
     store::clear(memory.marks);
-    marking::lay(&draft.bands, &draft.nodes, starts, memory.marks);
+    let profile = marking::Profile {
+        bands: &draft.bands,
+        nodes: &draft.nodes,
+    };
+    marking::lay(profile, starts, memory.marks);
 }
 
 // Judges the profile that is drafted by 11 and 12, and lays it where neither is given; refused, the memory is as it was: no word of it is written

@@ -25,13 +25,16 @@ returns-then-node_room-in_use c =
       λ e. absurd (omega arith),
     )
 
-pub count-sum-requires : goal.count-sum-requires
-count-sum-requires c =
+pub invariant_of-profile : goal.invariant_of-profile
+invariant_of-profile c =
     let draft = c.args.draft_nodes.now in
     let few : length (said_nodes draft) ≤ c.args.node_room = omega (arith, said_nodes_length draft) in
     let room = c.requires.2 in
     let kept = in_use_kept draft c.lay_links.ensures in
-    (omega (arith, said_nodes_length draft), zeros_have_room _ c.requires.4)
+    omega (arith, said_nodes_length draft)
+
+pub count-sum-requires : goal.count-sum-requires
+count-sum-requires c = zeros_have_room _ c.requires.4
 
 pub returns-then-mark_room-sum : goal.returns-then-mark_room-sum
 returns-then-mark_room-sum c =
