@@ -1,71 +1,63 @@
-// A command done, with its answer: on the words that are lent, or on what is the desk's own.
+// Commands done: on the memory that is lent, or on what is the desk's own.
+use crate::carding::Card;
 use crate::lending::Lent;
-use crate::state::{Desk, Done};
-use crate::stores::{BAND_STORE, CARD_WORDS, MARK_STORE, NODE_STORE};
-use crate::{calling, carding, lending, poking};
-use desk_answers::Told;
-use desk_lines::{Command, Fault};
+use crate::poking;
+use desk_answers::{NotDone, Told};
+use desk_lines::Command;
+use store::MemoryMut;
+use wheel::Place;
 
-// A command on the words that are lent: of the kinds w, c and a (the wheel is of the last, and looks at none). Any other changes no word, and nothing is told of it here.
-fn on_lent(command: Command, bands: &mut [u32], nodes: &mut [u32], marks: &mut [u32]) -> Told {
-    let kind = command.kind;
-    match kind {
-        b'w' => poking::on_slices(command, bands, nodes, marks),
-        b'c' => desk_answers::change_answer(calling::change(command, bands, nodes, marks)),
-        b'a' => calling::ask(command, bands, nodes, marks),
-        _ => desk_answers::nothing(),
+// What the desk knows from line to line: how much it lends, and the bench card.
+#[derive(Drop)]
+pub(crate) struct Desk {
+    pub lent: Lent,
+    card: Card,
+}
+
+impl Desk {
+    // At the start the largest memory that the box takes is lent, and the card has no record.
+    pub(crate) fn new() -> Desk {
+        Desk {
+            lent: Lent::largest(),
+            card: Card::new(),
+        }
     }
-}
 
-// On so many words of each store.
-fn on_part(
-    command: Command,
-    lent: Lent,
-    bands: &mut [u32],
-    nodes: &mut [u32],
-    marks: &mut [u32],
-) -> Told {
-    on_lent(
-        command,
-        lending::part(bands, lent.bands),
-        lending::part(nodes, lent.nodes),
-        lending::part(marks, lent.marks),
-    )
-}
-
-// On the stores, of which so many words are lent.
-pub(crate) fn on_words(
-    command: Command,
-    lent: Lent,
-    bands: &mut [u32; BAND_STORE],
-    nodes: &mut [u32; NODE_STORE],
-    marks: &mut [u32; MARK_STORE],
-) -> Told {
-    on_part(command, lent, bands, nodes, marks)
-}
-
-fn lend(mut desk: Desk, command: Command) -> Done {
-    let lent = lending::asked(command);
-    if lent.is_there() {
-        desk.lent = lent;
-        return desk.told(desk_answers::done());
-    }
-    desk.told(desk_answers::fault_answer(Fault::NO_SUCH_MEMORY.0))
-}
-
-// A command on what is the desk's own: of the kinds ?, h, l and b. Of any other, what was told of it on the lent words is handed on.
-pub(crate) fn on_own(
-    desk: Desk,
-    command: Command,
-    told: Told,
-    records: &mut [u32; CARD_WORDS],
-) -> Done {
-    let kind = command.kind;
-    match kind {
-        b'?' => desk.told(desk_answers::fault_answer(command.first)),
-        b'h' => desk.told(desk_answers::help_answer()),
-        b'l' => lend(desk, command),
-        b'b' => carding::do_card(desk, command, records),
-        _ => desk.told(told),
+    // Does a command, and tells what comes of it: of many no more than that they are done.
+    pub(crate) fn answer(
+        &mut self,
+        command: Command,
+        memory: &mut MemoryMut<'_>,
+    ) -> Result<Told, NotDone> {
+        let asked = memory.to_ask();
+        match command {
+            Command::Memory { nodes, marks } => self.lent = Lent::of_room(nodes, marks)?,
+            Command::Lengths {
+                bands,
+                nodes,
+                marks,
+            } => self.lent = Lent::of_lengths(bands, nodes, marks)?,
+            Command::Fill { word } => poking::fill(memory, word),
+            Command::Poke { slice, index, word } => poking::poke(memory, slice, index, word)?,
+            Command::Empty => emptying::empty(memory)?,
+            Command::Insert(entry) => inserting::insert(memory, entry)?,
+            Command::Remove { number, scope } => removing::remove(memory, number, scope)?,
+            Command::CardClear => self.card.clear(),
+            Command::CardAdd(band) => self.card.add(band)?,
+            Command::CardScan(key) => return Ok(Told::Scan(self.card.scan(key)?)),
+            Command::Peek { slice, index } => return Ok(Told::Number(poking::peek(
+                asked, slice, index,
+            )?)),
+            Command::Sum => return Ok(Told::Number(poking::sum(asked))),
+            Command::Stab(key) => return Ok(Told::Stab(asking::stab(asked, key)?)),
+            Command::Check => return Ok(Told::Checked(checking::check(asked))),
+            Command::Band { number } => return Ok(Told::Band(asking::band(asked, number)?)),
+            Command::Edge { key, lane } => return Ok(Told::Edge(asking::edge(asked, key, lane)?)),
+            Command::Node(key) => return Ok(Told::Node(asking::node(asked, key)?)),
+            Command::Room => return Ok(Told::Room(asking::room(asked)?)),
+            Command::Wheel { place } => return Ok(Told::Turn(wheel::turn(Place(place))?)),
+            Command::Help => return Ok(Told::Help),
+        }
+        Ok(Told::Done)
     }
 }

@@ -1,96 +1,51 @@
-// Bytes on their way in: they are kept up to a line's end, and more are read where none are left.
-use crate::output;
-use crate::state::Desk;
-use crate::stores::{BUFFER, INPUT_START, OUTPUT_START, OWN_BYTES};
-use desk_lines::{Command, LINE_STORE};
+// Bytes on their way in: they are taken up to a line's end, and more are read where none are left.
+ghost use Rattle.std.specs.Prelude.{◌≤◌};
+ghost use Rattle.desk.specs.declared.input.TheConstants.{BUFFER};
+
+use desk_lines::Line;
 use std::io::Read;
 
-fn byte_at(bytes: &[u8; OWN_BYTES], at: usize) -> u8 {
-    if at < OWN_BYTES { bytes[at] } else { 0 }
+// How many bytes are read at a time.
+const BUFFER: usize = 65536;
+
+// The bytes last read, in an array since the desk has no heap, and where those stand that are not yet taken.
+#[derive(Drop)]
+pub(crate) struct Input<R> {
+    reader: R,
+    bytes: [u8; BUFFER],
+    next: usize,
+    end: usize,
+    ghost next_within: { next ≤ end },
+    ghost end_within: { end ≤ BUFFER },
 }
 
-// The line a byte longer. Beyond what is kept all that counts is that it is too long.
-fn keep_byte(bytes: &mut [u8; OWN_BYTES], length: usize, byte: u8) -> usize {
-    if length < LINE_STORE {
-        bytes[length] = byte;
-    }
-    if LINE_STORE < length {
-        length
-    } else {
-        length + 1
-    }
-}
-
-// Takes the bytes that were read up to a line's end, or to the last. A line that had ended is done with.
-fn take_line(mut desk: Desk, bytes: &mut [u8; OWN_BYTES]) -> Desk {
-    let mut kept = desk.kept();
-    let mut next = desk.next;
-    let end = desk.end;
-    desk.line_ended = false;
-    while next < end {
-        let byte = byte_at(bytes, next);
-        next += 1;
-        if byte == b'\n' {
-            desk.line_ended = true;
-            desk.line_length = kept;
-            desk.next = next;
-            return desk;
+impl<R: Read> Input<R> {
+    pub(crate) fn new(reader: R) -> Input<R> {
+        Input {
+            reader,
+            bytes: [0; BUFFER],
+            next: 0,
+            end: 0,
         }
-        kept = keep_byte(bytes, kept, byte);
     }
-    desk.line_length = kept;
-    desk.next = next;
-    desk
-}
 
-// Reads, and tells where what was read ends; where it starts, if there was nothing. A read that fails counts as the input's end.
-fn read_input(input: &mut impl Read, bytes: &mut [u8]) -> usize {
-    let start = INPUT_START;
-    let end = OUTPUT_START;
-    if bytes.len() < end {
-        return start;
+    // Takes the bytes up to a line's end, or all that there are, and tells whether the line has ended.
+    pub(crate) fn take_line(&mut self, line: &mut Line) -> bool {
+        let untaken = &self.bytes[self.next..self.end];
+        let end = untaken.iter().position(|&byte| byte == b'\n');
+        let length = end.unwrap_or(untaken.len());
+        for &byte in &untaken[..length] {
+            line.push(byte);
+        }
+        self.next += length + end.is_some() as usize;
+        end.is_some()
     }
-    let count = input.read(&mut bytes[start..end]).unwrap_or(0);
-    if count < BUFFER { start + count } else { end }
-}
 
-// Writes out the answers, and reads more. The input's end is the line's too.
-fn read_more(
-    rt: &impl Print,
-    input: &mut impl Read,
-    mut desk: Desk,
-    bytes: &mut [u8; OWN_BYTES],
-) -> Desk {
-    desk.written = output::flush(rt, bytes, desk.written);
-    let end = read_input(input, bytes);
-    let ended = end == INPUT_START;
-    desk.next = INPUT_START;
-    desk.end = end;
-    desk.line_ended = ended;
-    desk.input_ended = ended;
-    desk
-}
-
-// Moves on to a line's end or, where no byte is left before one, reads more.
-pub(crate) fn move_on(
-    rt: &impl Print,
-    input: &mut impl Read,
-    desk: Desk,
-    bytes: &mut [u8; OWN_BYTES],
-) -> Desk {
-    let taken = take_line(desk, bytes);
-    if taken.line_ended {
-        taken
-    } else {
-        read_more(rt, input, taken, bytes)
-    }
-}
-
-// The command of the line that has ended; nothing is to be done where none has.
-pub(crate) fn command(desk: Desk, bytes: &[u8; OWN_BYTES]) -> Command {
-    if desk.line_ended {
-        desk_lines::read_line(bytes, desk.line_length)
-    } else {
-        Command::nothing()
+    // Reads more bytes where all are taken, and tells whether there were any. A read that fails counts as the input's end.
+    pub(crate) fn read_more(&mut self) -> bool {
+        let count = self.reader.read(&mut self.bytes).unwrap_or(0);
+        self.next = 0;
+        self.end = count;
+        0 < count
     }
 }

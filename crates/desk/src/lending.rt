@@ -1,64 +1,74 @@
-// Which of the desk's words are lent: so many from the first of each store on.
-ghost use Rattle.std.specs.Prelude.{◌≤◌, length};
+// What the desk lends: of each store so many words, from its first on, never more than it has.
+ghost use Rattle.std.specs.Prelude.{◌≤◌};
+ghost use Rattle.desk.specs.declared.lending.TheConstants.{BAND_STORE, MARK_STORE, NODE_STORE};
 
-use crate::stores::{BAND_STORE, MARK_STORE, NODE_STORE};
-use desk_lines::Command;
+use desk_lines::Fault;
+use store::MemoryMut;
 
+// The stores have some more words than the largest memory of the box, so that lengths that are too large can be lent as well.
+pub(crate) const BAND_STORE: usize = 8200;
+
+pub(crate) const NODE_STORE: usize = 41020;
+
+pub(crate) const MARK_STORE: usize = 16400;
+
+// How many words are lent of each store.
 #[derive(Clone, Copy)]
-pub struct Lent {
-    pub bands: usize,
-    pub nodes: usize,
-    pub marks: usize,
-}
-
-// What a line asks for: words of each store, or the memory of a room, with a place for each node and one for the header, and a word for each mark.
-pub(crate) fn asked(command: Command) -> Lent {
-    let first = command.first as usize;
-    let second = command.second as usize;
-    if command.which == b'm' {
-        return Lent {
-            bands: store::BAND_WORDS,
-            nodes: store::NODE_PLACE_WORDS * (first + 1),
-            marks: second,
-        };
-    }
-    Lent {
-        bands: first,
-        nodes: second,
-        marks: command.third as usize,
-    }
+pub(crate) struct Lent {
+    bands: usize,
+    nodes: usize,
+    marks: usize,
+    ghost bands_there: { bands ≤ BAND_STORE },
+    ghost nodes_there: { nodes ≤ NODE_STORE },
+    ghost marks_there: { marks ≤ MARK_STORE },
 }
 
 impl Lent {
-    // Whether the stores have so many words.
-    pub(crate) fn is_there(self) -> bool {
-        (self.bands <= BAND_STORE) & (self.nodes <= NODE_STORE) & (self.marks <= MARK_STORE)
+    // The largest memory that the box takes.
+    pub(crate) fn largest() -> Lent {
+        Lent {
+            bands: store::BAND_WORDS,
+            nodes: store::NODE_PLACE_WORDS * (store::MOST_NODES + 1),
+            marks: store::MOST_MARKS,
+        }
     }
-}
 
-// At the start: the largest memory that the box takes.
-pub(crate) fn at_start() -> Lent {
-    Lent {
-        bands: store::BAND_WORDS,
-        nodes: store::NODE_PLACE_WORDS * (store::MOST_NODES + 1),
-        marks: store::MOST_MARKS,
+    // The memory of a room, with a place for each node and one for the header, and a word for each mark.
+    pub(crate) fn of_room(nodes: u32, marks: u32) -> Result<Lent, Fault> {
+        Lent::of(
+            store::BAND_WORDS,
+            store::NODE_PLACE_WORDS * (nodes as usize + 1),
+            marks as usize,
+        )
     }
-}
 
-// Where the lent words of a store end; never past the store.
-pub(crate) fn end_in(lent: usize, store: &[u32]) -> usize
-    ensures { result ≤ length store.now }
-{
-    if lent < store.len() {
-        lent
-    } else {
-        store.len()
+    pub(crate) fn of_lengths(bands: u32, nodes: u32, marks: u32) -> Result<Lent, Fault> {
+        Lent::of(bands as usize, nodes as usize, marks as usize)
     }
-}
 
-// The lent words of a store.
-pub(crate) fn part(store: &mut [u32], lent: usize) -> &mut [u32] {
-    let zero = 0;
-    let end = end_in(lent, store);
-    &mut store[zero..end]
+    fn of(bands: usize, nodes: usize, marks: usize) -> Result<Lent, Fault> {
+        if bands <= BAND_STORE && nodes <= NODE_STORE && marks <= MARK_STORE {
+            Ok(Lent {
+                bands,
+                nodes,
+                marks,
+            })
+        } else {
+            Err(Fault::NoSuchMemory)
+        }
+    }
+
+    // The memory that is lent of the stores.
+    pub(crate) fn memory_in<'a>(
+        self,
+        bands: &'a mut [u32; BAND_STORE],
+        nodes: &'a mut [u32; NODE_STORE],
+        marks: &'a mut [u32; MARK_STORE],
+    ) -> MemoryMut<'a> {
+        MemoryMut {
+            bands: &mut bands[..self.bands],
+            nodes: &mut nodes[..self.nodes],
+            marks: &mut marks[..self.marks],
+        }
+    }
 }

@@ -2,48 +2,51 @@
 // stands in docs/DESK.md.
 #![tactic(auto)]
 
-mod calling;
 mod carding;
 mod doing;
 mod input;
 mod lending;
 mod output;
 mod poking;
-mod state;
-mod stores;
 
-use desk_lines::Command;
-use state::Desk;
+use desk_answers::NotDone;
+use desk_lines::Line;
+use doing::Desk;
+use input::Input;
+use lending::{BAND_STORE, MARK_STORE, NODE_STORE};
+use output::Output;
 
-// The life of a desk, to the input's end, with an empty profile at its start. The turns are counted down from more than any run takes, so that the
-// loop is seen to end (proofs/main).
+// The life of a desk, to the input's end, with an empty profile at its start. There are more turns than any run takes, so the loop is seen to end.
 fn main(rt: HostRuntime) {
-    let mut bands = [0u32; stores::BAND_STORE];
-    let mut nodes = [0u32; stores::NODE_STORE];
-    let mut marks = [0u32; stores::MARK_STORE];
-    let mut records = [0u32; stores::CARD_WORDS];
-    let mut bytes = [0u8; stores::OWN_BYTES];
-    let mut input = rt.stdin();
-    let mut desk = Desk::at_start();
-    doing::on_words(
-        Command::empty(),
-        desk.lent,
-        &mut bands,
-        &mut nodes,
-        &mut marks,
-    );
-    let mut turns = u64::MAX;
-    while turns > 0 {
-        turns -= 1;
-        desk = input::move_on(&rt, &mut input, desk, &mut bytes);
-        let command = input::command(desk, &bytes);
-        let told = doing::on_words(command, desk.lent, &mut bands, &mut nodes, &mut marks);
-        desk = output::tell(
-            &rt,
-            doing::on_own(desk, command, told, &mut records),
-            &mut bytes,
-        );
-        if desk.input_ended {
+    let mut bands = [0u32; BAND_STORE];
+    let mut nodes = [0u32; NODE_STORE];
+    let mut marks = [0u32; MARK_STORE];
+    let mut desk = Desk::new();
+    let mut input = Input::new(rt.stdin());
+    let mut line = Line::new();
+    let mut output = Output::new();
+    let mut memory = desk.lent.memory_in(&mut bands, &mut nodes, &mut marks);
+    let _ = emptying::empty(&mut memory);
+    for _ in 0..u64::MAX {
+        let line_ended = input.take_line(&mut line);
+        if !line_ended {
+            output.flush(&rt);
+            if input.read_more() {
+                continue;
+            }
+        }
+        match line.command() {
+            Ok(Some(command)) => {
+                let mut memory = desk.lent.memory_in(&mut bands, &mut nodes, &mut marks);
+                output.tell(&rt, desk.answer(command, &mut memory));
+            }
+            Ok(None) => {}
+            Err(fault) => output.tell(&rt, Err(NotDone::from(fault))),
+        }
+        line.clear();
+        // The input's end is its last line's too.
+        if !line_ended {
+            output.flush(&rt);
             return;
         }
     }
