@@ -14,7 +14,7 @@ use hall::{Answer, Refusal};
 use marking::Profile;
 
 // Judges 11, lays the links, counts the marks and judges 12; where neither is given it completes the draft with header and fences. The cursors are then
-// the starts of the slots.
+// the starts of the slots. The draft's parts come apart, the bands by `&`: so the type says that no band word of it is written.
 pub(crate) fn complete(
     draft_bands: &[u32],
     draft_nodes: &mut [u32],

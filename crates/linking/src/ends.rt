@@ -31,7 +31,8 @@ fn note_ends_of(bands: &[u32], nodes: &[u32], number: u32, found: &mut [u32]) ->
     low & high
 }
 
-// Notes the places of the ends of all live bands, and answers whether all have one.
+// Notes the places of the ends of all live bands, and answers whether all have one. Bands and nodes come apart: one value of both, as marks are walked
+// by, would ask that the nodes in use are few, which this does not.
 pub fn note_ends(bands: &[u32], nodes: &[u32], found: &mut [u32]) -> bool
     ensures { (result ≡ all says_yes (end_places bands.now nodes.now))
         × (found.new ≡ noted found.old (end_places bands.now nodes.now)) }
