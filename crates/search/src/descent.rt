@@ -20,6 +20,7 @@ pub struct Found {
 const MOST_LOOKS: u32 = 2056;
 
 // In each lane the search steps on while the next node is below the key, and takes the edge's marks as it drops if the next is above.
+// The inner loop yields the node to drop from; both are left by label where no look is left.
 // (That the marks are no more than there can be is asked here and where marks are read: a kind of its own for marks would be unpacked in each of these.)
 pub fn search(nodes: &[u32], marks: &[u32], key: Key) -> Found
     requires { length marks.now ≤ most_marks }
@@ -28,27 +29,27 @@ pub fn search(nodes: &[u32], marks: &[u32], key: Key) -> Found
     let mut taken = Taken::nothing();
     let mut looks = 0;
     let mut place = store::HEADER;
-    for lane in (0..store::LANES).rev() {
-        loop {
-            if MOST_LOOKS <= looks {
-                return Found {
-                    taken,
-                    looks,
-                    place,
-                };
-            }
-            looks += 1;
-            match next::next_in(nodes, place, lane) {
-                Some(next) if next.key < key => place = next.place,
-                Some(next) if key < next.key => {
-                    taken.take_slot(nodes, marks, place, 1 + lane);
-                    break;
+    'search: {
+        for lane in (0..store::LANES).rev() {
+            let mut here = place;
+            place = loop {
+                if MOST_LOOKS <= looks {
+                    place = here;
+                    break 'search;
                 }
-                _ => break,
-            }
+                looks += 1;
+                match next::next_in(nodes, here, lane) {
+                    Some(next) if next.key < key => here = next.place,
+                    Some(next) if key < next.key => {
+                        taken.take_slot(nodes, marks, here, 1 + lane);
+                        break here;
+                    }
+                    _ => break here,
+                }
+            };
         }
+        take_at_end(nodes, marks, key, place, &mut taken);
     }
-    take_at_end(nodes, marks, key, place, &mut taken);
     Found {
         taken,
         looks,

@@ -44,6 +44,6 @@ loop-lane-preserved c =
 pub returns-then-looks-ge-MOST_LOOKS : goal.returns-then-looks-ge-MOST_LOOKS
 returns-then-looks-ge-MOST_LOOKS c = ends_short _ _ _ c.loop-looks.invariant (omega arith) (omega arith)
 
-pub returns : goal.returns
-returns c =
+pub returns-after-loop-lane : goal.returns-after-loop-lane
+returns-after-loop-lane c =
     let done : c.loop-lane.lane ≡ 0 = omega arith in ends _ _ _ (rw done at c.loop-lane.invariant) c.take_at_end.ensures

@@ -6,7 +6,7 @@ use Rattle.search.proofs.Searching.{Searching}
 use Rattle.search.proofs.descent.search.Given as goal
 
 abbrev pub invariant-loop-looks : goal.invariant-loop-looks
-invariant-loop-looks l = Searching l.nodes l.marks l.key.0 l.taken l.looks l.place (suc l.lane)
+invariant-loop-looks l = Searching l.nodes l.marks l.key.0 l.taken l.looks l.here (suc l.lane)
 
 abbrev pub decreases-loop-looks : goal.decreases-loop-looks
 decreases-loop-looks l = most_looks - l.looks
