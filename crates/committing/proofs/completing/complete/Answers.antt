@@ -28,8 +28,6 @@ returns-then-node_room-in_use c =
 pub invariant_of-profile : goal.invariant_of-profile
 invariant_of-profile c =
     let draft = c.args.draft_nodes.now in
-    let few : length (said_nodes draft) ≤ c.args.node_room = omega (arith, said_nodes_length draft) in
-    let room = c.requires.2 in
     let kept = in_use_kept draft c.lay_links.ensures in
     omega (arith, said_nodes_length draft)
 
