@@ -7,9 +7,14 @@ use mathlib.Core.Path.{◌≡◌}
 use Rattle.std.specs.Prelude.{Result}
 use Rattle.hall.specs.declared.answers.Refusal.{Refusal}
 use Rattle.hall.specs.declared.entries.Entry.{Entry}
+use Rattle.store.specs.LentMemory.{StillLent}
 use Rattle.store.proofs.LentWords.{LentToChange, SameWordsLeft}
 use Rattle.store.proofs.ToldBack.{change_told_back}
 use Rattle.inserting.proofs.insert.Reads.{Post as promise}
 
 pub insert_settled : (κs : Lfts 2) (given x y : LentToChange (Entry × Unit {0})) (a b : Result Unit Refusal) → promise κs given a x → promise κs given b y → (a ≡ b) × SameWordsLeft x y
 insert_settled κs given x y a b p q = change_told_back a b _ _ p.0 q.0
+
+-- and the slices that it gives back are those that it was lent
+pub insert_lends_back : (κs : Lfts 2) (given x : LentToChange (Entry × Unit {0})) (a : Result Unit Refusal) → promise κs given a x → StillLent given.0.now x.0.now
+insert_lends_back κs given x a p = p.1

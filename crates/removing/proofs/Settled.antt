@@ -7,9 +7,14 @@ use contract.Lifetimes.{Lfts}
 use mathlib.Core.Path.{◌≡◌}
 use Rattle.std.specs.Prelude.{Result}
 use Rattle.hall.specs.declared.answers.Refusal.{Refusal}
+use Rattle.store.specs.LentMemory.{StillLent}
 use Rattle.store.proofs.LentWords.{LentToChange, SameWordsLeft}
 use Rattle.store.proofs.ToldBack.{change_told_back}
 use Rattle.removing.proofs.remove.Reads.{Post as promise}
 
 pub remove_settled : (κs : Lfts 2) (given x y : LentToChange (ℕ × (ℕ × Unit {0}))) (a b : Result Unit Refusal) → promise κs given a x → promise κs given b y → (a ≡ b) × SameWordsLeft x y
 remove_settled κs given x y a b p q = change_told_back a b _ _ p.0 q.0
+
+-- and the slices that it gives back are those that it was lent
+pub remove_lends_back : (κs : Lfts 2) (given x : LentToChange (ℕ × (ℕ × Unit {0}))) (a : Result Unit Refusal) → promise κs given a x → StillLent given.0.now x.0.now
+remove_lends_back κs given x a p = p.1
