@@ -1,5 +1,6 @@
 // The bench card: a list of records that the desk keeps beside the memory. No record is judged before a scan.
 ghost use Rattle.std.specs.Prelude.{◌≤◌};
+ghost use Rattle.card.specs.declared.laying.TheConstants.{MOST_RECORDS};
 
 use card::{Held, MOST_RECORDS, RECORD_WORDS, Wrong};
 use desk_lines::Fault;
@@ -13,7 +14,7 @@ const CARD_WORDS: usize = RECORD_WORDS * MOST_RECORDS;
 pub(crate) struct Card {
     words: [u32; CARD_WORDS],
     count: usize,
-    ghost within: { count ≤ 1100 },
+    ghost within: { count ≤ MOST_RECORDS },
 }
 
 impl Card {

@@ -1,6 +1,7 @@
 // The line that is being read, as far as it has come.
 ghost use Rattle.std.specs.Prelude.{◌≡◌, ◌+◌, ◌-◌, ◌^◌, ◌<◌, min, set, Err};
 ghost use Rattle.desk_lines.specs.declared.faults.Fault.{Fault};
+ghost use Rattle.desk_lines.specs.declared.lines.TheConstants.{KEPT};
 
 use crate::commands::Command;
 use crate::faults::Fault;
@@ -49,7 +50,7 @@ impl Line {
 
     // What the line asks; none where nothing is to be done, since it has no word or is a remark. One carriage return at its end is not part of it.
     pub fn command(&self) -> Result<Option<Command>, Fault>
-        ensures { 201 < self.now.length → result ≡ Err Fault.LineTooLong }
+        ensures { KEPT < self.now.length → result ≡ Err Fault.LineTooLong }
     {
         let kept = self.bytes.get(..self.length).ok_or(Fault::LineTooLong)?;
         let line = kept.strip_suffix(b"\r").unwrap_or(kept);
