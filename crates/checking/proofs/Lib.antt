@@ -15,6 +15,7 @@
 --   Joined         tests joined by the first of them
 --   AllOf          what `all` answers over a range, and over words
 --   EndSteps, LinkSteps, MarkSteps
+--   EndsAndLinks   the third step, joined
 --   WithinMost     nodes and marks within the most, once sizes and node places have passed
 pub mod Joined
 pub mod AllOf
@@ -32,4 +33,5 @@ pub mod Settled
 pub mod EndSteps
 pub mod LinkSteps
 pub mod MarkSteps
+pub mod EndsAndLinks
 pub mod WithinMost

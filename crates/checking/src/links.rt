@@ -3,7 +3,7 @@ ghost use Rattle.std.specs.Prelude.{◌≡◌};
 ghost use Rattle.checking.specs.Links.{links_right, links_due};
 
 // Whether the links of a place, in as many lanes as it has, lead to the first places ahead; in other lanes they are 0.
-fn links_due(nodes: &[u32], place: u32, level: u32, ahead: &[u32; store::LANES]) -> bool
+fn links_due(nodes: &[u32], place: u32, level: usize, ahead: &[u32; store::LANES]) -> bool
     ensures { result ≡ links_due nodes.now place level ahead.now }
 {
     (0..store::LANES).all(|lane| {
@@ -18,11 +18,11 @@ pub(crate) fn links_right(nodes: &[u32]) -> bool
     let mut ahead = [0; store::LANES];
     let in_use = store::node_word(nodes, store::HEADER, store::NODES_IN_USE);
     for place in (1..=in_use).rev() {
-        let level = store::node_word(nodes, place, store::LEVEL);
+        let level = store::node_word(nodes, place, store::LEVEL) as usize;
         if !links_due(nodes, place, level, &ahead) {
             return false;
         }
         linking::raise(place, level, &mut ahead);
     }
-    links_due(nodes, store::HEADER, store::LANES as u32, &ahead)
+    links_due(nodes, store::HEADER, store::LANES, &ahead)
 }

@@ -47,6 +47,7 @@ pub fn commit(draft: &mut Draft, memory: &mut MemoryMut<'_>) -> Answer
         × ((p : Profile) × Drafts p draft.old.bands draft.old.nodes) }
     ensures commits { (p : Profile) → Drafts p draft.old.bands draft.old.nodes
         → came result (words_in_mut memory.new) ≡ committed (words_in_mut memory.old) p }
+    ensures bands { draft.new.bands ≡ draft.old.bands }
     ensures lent { StillLent memory.old memory.new }
 {
     let mut cursors = [0u32; marking::MOST_CURSORS];

@@ -4,7 +4,7 @@ ghost use Rattle.store.specs.HasFields.{HasFields};
 ghost use Rattle.committing.specs.LinkDraft.{linked_field, linked_at_field};
 
 // The links of a place that has them in so many lanes, to the first places ahead; in other lanes 0.
-fn put_links(draft: &mut [u32], place: u32, level: u32, ahead: &[u32; store::LANES])
+fn put_links(draft: &mut [u32], place: u32, level: usize, ahead: &[u32; store::LANES])
     ensures { HasFields (length draft.old) (linked_at_field draft.old place level ahead.now) draft.new }
 {
     for lane in 0..store::LANES {
@@ -20,9 +20,9 @@ pub(crate) fn lay_links(draft: &mut [u32])
     let mut ahead = [0u32; store::LANES];
     let in_use = store::node_word(draft, store::HEADER, store::NODES_IN_USE);
     for place in (1..=in_use).rev() {
-        let level = store::node_word(draft, place, store::LEVEL);
+        let level = store::node_word(draft, place, store::LEVEL) as usize;
         put_links(draft, place, level, &ahead);
         linking::raise(place, level, &mut ahead);
     }
-    put_links(draft, store::HEADER, store::LANES as u32, &ahead);
+    put_links(draft, store::HEADER, store::LANES, &ahead);
 }

@@ -25,6 +25,7 @@ use Rattle.store.specs.Sizes.{sizes_right}
 use Rattle.store.specs.Memory.{Memory, lengths_in, room_in}
 use Rattle.store.specs.SaidProfile.{said_profile}
 use Rattle.store.specs.Sound.{sound}
+use Rattle.store.specs.LentMemory.{StillLent}
 use Rattle.store.specs.ChangeIn.{change_in}
 use Rattle.store.proofs.LentWords.{LentToChange, also_given, memory_to_change, came_of_change}
 use Rattle.store.proofs.ChangeIn.{LeavesSound, change_leaves}
@@ -75,8 +76,9 @@ empty_outcome m =
     }
 
 pub any_empty_outcome : (κs : Lfts 2) (given left : LentToChange (Unit {0})) (a : Result Unit Refusal) → empty_promise κs given a left
-    → EmptyOutcome (memory_to_change given) (came_of_change a left)
-any_empty_outcome κs given left a meets = subst (EmptyOutcome (memory_to_change given)) (sym meets.0) (empty_outcome (memory_to_change given))
+    → EmptyOutcome (memory_to_change given) (came_of_change a left) × StillLent given.0.now left.0.now
+any_empty_outcome κs given left a meets =
+    (subst (EmptyOutcome (memory_to_change given)) (sym meets.0) (empty_outcome (memory_to_change given)), meets.1)
 
 -- ---- inserting a band
 
@@ -121,9 +123,9 @@ insert_outcome m b lo hi =
     }
 
 pub any_insert_outcome : (κs : Lfts 2) (given left : LentToChange (Entry × Unit {0})) (a : Result Unit Refusal) → insert_promise κs given a left
-    → InsertOutcome (memory_to_change given) (said (also_given given).0.band) (also_given given).0.low_level (also_given given).0.high_level (came_of_change a left)
+    → InsertOutcome (memory_to_change given) (said (also_given given).0.band) (also_given given).0.low_level (also_given given).0.high_level (came_of_change a left) × StillLent given.0.now left.0.now
 any_insert_outcome κs given left a meets =
-    subst (InsertOutcome (memory_to_change given) (said (also_given given).0.band) (also_given given).0.low_level (also_given given).0.high_level) (sym meets.0) (insert_outcome _ _ _ _)
+    (subst (InsertOutcome (memory_to_change given) (said (also_given given).0.band) (also_given given).0.low_level (also_given given).0.high_level) (sym meets.0) (insert_outcome _ _ _ _), meets.1)
 
 -- ---- removing a band
 
@@ -164,6 +166,6 @@ remove_outcome m number scope =
     }
 
 pub any_remove_outcome : (κs : Lfts 2) (given left : LentToChange (ℕ × (ℕ × Unit {0}))) (a : Result Unit Refusal) → remove_promise κs given a left
-    → RemoveOutcome (memory_to_change given) (also_given given).0 (also_given given).1.0 (came_of_change a left)
+    → RemoveOutcome (memory_to_change given) (also_given given).0 (also_given given).1.0 (came_of_change a left) × StillLent given.0.now left.0.now
 any_remove_outcome κs given left a meets =
-    subst (RemoveOutcome (memory_to_change given) (also_given given).0 (also_given given).1.0) (sym meets.0) (remove_outcome _ _ _)
+    (subst (RemoveOutcome (memory_to_change given) (also_given given).0 (also_given given).1.0) (sym meets.0) (remove_outcome _ _ _), meets.1)

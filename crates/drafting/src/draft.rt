@@ -28,7 +28,8 @@ impl Draft {
     // looked for among the bands.
     pub fn keep_ends(&mut self, nodes: &[u32])
         requires { ((p : Profile) × Leaves p self.old.bands nodes.now) × (self.old.nodes ≡ replicate draft_words 0) }
-        ensures { (p : Profile) → Leaves p self.old.bands nodes.now → Drafts p self.new.bands self.new.nodes }
+        ensures drafts { (p : Profile) → Leaves p self.old.bands nodes.now → Drafts p self.new.bands self.new.nodes }
+        ensures bands { self.new.bands ≡ self.old.bands }
     {
         let mut found = [0u32; linking::MOST_PLACES];
         linking::note_ends(&self.bands, nodes, &mut found);

@@ -1,5 +1,5 @@
 -- No second outcome meets the promise of an insert: of two that meet what its `ensures` says, whatever it was lent and given, the answers are equal and
--- all three slices. Stated of the promise itself: one that said less would not settle the outcome.
+-- all three slices, which are the very ones that were lent. Stated of the promise itself: one that said less would not settle the outcome.
 -- Assumes nothing.
 use Prim.{Unit}
 use contract.Lifetimes.{Lfts}
@@ -12,9 +12,6 @@ use Rattle.store.proofs.LentWords.{LentToChange, SameWordsLeft}
 use Rattle.store.proofs.ToldBack.{change_told_back}
 use Rattle.inserting.proofs.insert.Reads.{Post as promise}
 
-pub insert_settled : (κs : Lfts 2) (given x y : LentToChange (Entry × Unit {0})) (a b : Result Unit Refusal) → promise κs given a x → promise κs given b y → (a ≡ b) × SameWordsLeft x y
-insert_settled κs given x y a b p q = change_told_back a b _ _ p.0 q.0
-
--- and the slices that it gives back are those that it was lent
-pub insert_lends_back : (κs : Lfts 2) (given x : LentToChange (Entry × Unit {0})) (a : Result Unit Refusal) → promise κs given a x → StillLent given.0.now x.0.now
-insert_lends_back κs given x a p = p.1
+pub insert_settled : (κs : Lfts 2) (given x y : LentToChange (Entry × Unit {0})) (a b : Result Unit Refusal) → promise κs given a x → promise κs given b y
+    → (a ≡ b) × SameWordsLeft x y × StillLent given.0.now x.0.now × StillLent given.0.now y.0.now
+insert_settled κs given x y a b p q = let same = change_told_back a b _ _ p.0 q.0 in (same.0, same.1, p.1, q.1)

@@ -13,10 +13,10 @@ pub put_entry-requires : goal.put_entry-requires
 put_entry-requires c =
     let pre = c.requires in
     let left = all_stay _ (insert_on_sound _ _ _ _ pre.0) pre.1 c.copy.ensures in
-    (_, c.keep_ends.ensures _ left, entry_right _ _ _ _ pre.0, number_free _ _ _ _ pre.0)
+    (_, c.keep_ends.ensures.drafts _ left, entry_right _ _ _ _ pre.0, number_free _ _ _ _ pre.0)
 
 pub returns : goal.returns
 returns c =
     let pre = c.requires in
     let left = all_stay _ (insert_on_sound _ _ _ _ pre.0) pre.1 c.copy.ensures in
-    c.put_entry.ensures _ (c.keep_ends.ensures _ left)
+    c.put_entry.ensures _ (c.keep_ends.ensures.drafts _ left)

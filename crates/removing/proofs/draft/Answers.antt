@@ -11,4 +11,4 @@ keep_ends-requires c =
 pub returns : goal.returns
 returns c =
     let pre = c.requires in
-    c.keep_ends.ensures _ (all_but_number _ pre.0 _ pre.1 pre.2 c.copy.ensures c.drop_band.ensures)
+    c.keep_ends.ensures.drafts _ (all_but_number _ pre.0 _ pre.1 pre.2 c.copy.ensures c.drop_band.ensures)

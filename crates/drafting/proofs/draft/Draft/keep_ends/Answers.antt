@@ -5,5 +5,5 @@ use Rattle.drafting.proofs.KeptNodes.{noted_nodes_at_ends}
 use Rattle.drafting.proofs.WhatStays.{left_drafted}
 use Rattle.drafting.proofs.draft.Draft.keep_ends.Goals as goal
 
-pub returns : goal.returns
-returns c p left = left_drafted left (rw (← noted_nodes_at_ends _ _ left.places left.ascend (search rules) (search rules) c.note_ends.ensures.1) c.keep_noted.ensures)
+pub returns-clause-drafts : goal.returns-clause-drafts
+returns-clause-drafts c p left = left_drafted left (rw (← noted_nodes_at_ends _ _ left.places left.ascend (search rules) (search rules) c.note_ends.ensures.1) c.keep_noted.ensures)
