@@ -6,11 +6,41 @@ use desk_lines::Fault;
 use store::MemoryMut;
 
 // The stores have some more words than the largest memory of the box, so that lengths that are too large can be lent as well.
-pub(crate) const BAND_STORE: usize = 8200;
+const BAND_STORE: usize = 8200;
 
-pub(crate) const NODE_STORE: usize = 41020;
+const NODE_STORE: usize = 41020;
 
-pub(crate) const MARK_STORE: usize = 16400;
+const MARK_STORE: usize = 16400;
+
+// The words that there are to lend.
+#[derive(Drop)]
+pub(crate) struct Stores {
+    bands: [u32; BAND_STORE],
+    nodes: [u32; NODE_STORE],
+    marks: [u32; MARK_STORE],
+}
+
+impl Stores {
+    pub(crate) fn new() -> Stores {
+        Stores {
+            bands: [0; BAND_STORE],
+            nodes: [0; NODE_STORE],
+            marks: [0; MARK_STORE],
+        }
+    }
+
+    // The memory that is lent of them.
+    pub(crate) fn memory(&mut self, lent: Lent) -> MemoryMut<'_> {
+        let bands = &mut self.bands;
+        let nodes = &mut self.nodes;
+        let marks = &mut self.marks;
+        MemoryMut {
+            bands: &mut bands[..lent.bands],
+            nodes: &mut nodes[..lent.nodes],
+            marks: &mut marks[..lent.marks],
+        }
+    }
+}
 
 // How many words are lent of each store.
 #[derive(Clone, Copy)]
@@ -55,20 +85,6 @@ impl Lent {
             })
         } else {
             Err(Fault::NoSuchMemory)
-        }
-    }
-
-    // The memory that is lent of the stores.
-    pub(crate) fn memory_in<'a>(
-        self,
-        bands: &'a mut [u32; BAND_STORE],
-        nodes: &'a mut [u32; NODE_STORE],
-        marks: &'a mut [u32; MARK_STORE],
-    ) -> MemoryMut<'a> {
-        MemoryMut {
-            bands: &mut bands[..self.bands],
-            nodes: &mut nodes[..self.nodes],
-            marks: &mut marks[..self.marks],
         }
     }
 }

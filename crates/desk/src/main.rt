@@ -13,19 +13,17 @@ use desk_answers::NotDone;
 use desk_lines::Line;
 use doing::Desk;
 use input::Input;
-use lending::{BAND_STORE, MARK_STORE, NODE_STORE};
+use lending::Stores;
 use output::Output;
 
 // The life of a desk, to the input's end, with an empty profile at its start. There are more turns than any run takes, so the loop is seen to end.
 fn main(rt: HostRuntime) {
-    let mut bands = [0u32; BAND_STORE];
-    let mut nodes = [0u32; NODE_STORE];
-    let mut marks = [0u32; MARK_STORE];
+    let mut stores = Stores::new();
     let mut desk = Desk::new();
     let mut input = Input::new(rt.stdin());
     let mut line = Line::new();
     let mut output = Output::new();
-    let mut memory = desk.lent.memory_in(&mut bands, &mut nodes, &mut marks);
+    let mut memory = stores.memory(desk.lent);
     let _ = emptying::empty(&mut memory);
     for _ in 0..u64::MAX {
         let line_ended = input.take_line(&mut line);
@@ -37,7 +35,7 @@ fn main(rt: HostRuntime) {
         }
         match line.command() {
             Ok(Some(command)) => {
-                let mut memory = desk.lent.memory_in(&mut bands, &mut nodes, &mut marks);
+                let mut memory = stores.memory(desk.lent);
                 output.tell(&rt, desk.answer(command, &mut memory));
             }
             Ok(None) => {}

@@ -22,16 +22,17 @@ fn number(word: &[u8]) -> Result<u32, Fault> {
     })
 }
 
-// A part too high to be a number is out of its range like any other: it is read as the highest number.
-fn part(word: &[u8]) -> Result<u32, Fault> {
+// None for a part that is too high to be a number: it is out of its range like any other.
+fn part(word: &[u8]) -> Result<Option<u32>, Fault> {
     match number(word) {
-        Err(Fault::NumberAbove) => Ok(u32::MAX),
-        read => read,
+        Ok(part) => Ok(Some(part)),
+        Err(Fault::NumberAbove) => Ok(None),
+        Err(fault) => Err(fault),
     }
 }
 
 // None where a part is out of its range.
-fn of_parts(machine: u32, sensor: u32, reading: u32) -> Option<Key> {
-    let counts = u16::try_from(reading).ok()?;
-    Key::of(machine, sensor, Reading(counts))
+fn of_parts(machine: Option<u32>, sensor: Option<u32>, reading: Option<u32>) -> Option<Key> {
+    let counts = u16::try_from(reading?).ok()?;
+    Key::of(machine?, sensor?, Reading(counts))
 }
