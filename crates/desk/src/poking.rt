@@ -39,6 +39,7 @@ pub(crate) fn sum(memory: Memory<'_>) -> u32 {
     words.fold(0, |sum, word| sum_with(sum, *word))
 }
 
+// The slice that is meant, to write in: `peek` picks it by itself, since it is lent by `&`.
 fn slice_mut<'a>(memory: &'a mut MemoryMut<'_>, slice: Slice) -> &'a mut [u32] {
     match slice {
         Slice::Bands => memory.bands,
