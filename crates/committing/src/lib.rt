@@ -6,4 +6,4 @@ mod fence_laying;
 mod laying;
 mod link_laying;
 
-pub use laying::commit;
+pub use laying::{commit, commit_words};

@@ -2,7 +2,10 @@
 #![tactic(auto)]
 
 mod draft;
+mod entry_drafting;
 mod keeping;
 mod node_drafting;
 
 pub use draft::{DRAFT_WORDS, Draft};
+pub use entry_drafting::put_entry;
+pub use keeping::keep_ends;

@@ -1,10 +1,10 @@
--- `drafting::draft::Draft::put_entry` meets its contract: with both ends put and the band laid, the draft is that of the profile with the band.
+-- `drafting::entry_drafting::put_entry` meets its contract: with both ends put and the band laid, the draft is that of the profile with the band.
 -- Assumes nothing.
 use Rattle.rules.specs.Changes.{inserted}
 use Rattle.drafting.specs.Drafts.{Drafts}
 use Rattle.drafting.proofs.Drafts.{of_every}
 use Rattle.drafting.proofs.EntryDraft.{first_asks, second_asks, entry_drafted}
-use Rattle.drafting.proofs.draft.Draft.put_entry.Goals as goal
+use Rattle.drafting.proofs.entry_drafting.put_entry.Goals as goal
 
 pub put_node-requires : goal.put_node-requires
 put_node-requires c = let pre = c.requires in first_asks pre.1 _ _ _ pre.2 pre.3

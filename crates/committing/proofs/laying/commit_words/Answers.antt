@@ -1,4 +1,4 @@
--- `committing::laying::commit` meets its contract: what was judged of the draft stands, and else memory is that of the profile drafted.
+-- `committing::laying::commit_words` meets its contract: what was judged of the draft stands, and else memory is that of the profile drafted.
 -- Assumes nothing.
 use mathlib.Core.Path.{◌≡◌, sym, ap, ◌∙◌}
 use native.Mathlib.Omega.{arith}
@@ -11,7 +11,7 @@ use Rattle.store.proofs.RightSizes.{sizes_in_numbers}
 use Rattle.drafting.proofs.Drafts.{drafts_say, drafts_own, of_every}
 use Rattle.committing.specs.Committed.{committed}
 use Rattle.committing.proofs.DraftCommitted.{draft_refused, draft_completed, draft_in_room, draft_accepted, counted_from_zero}
-use Rattle.committing.proofs.laying.commit.Goals as goal
+use Rattle.committing.proofs.laying.commit_words.Goals as goal
 
 pub overflow_sub-node_room : goal.overflow_sub-node_room
 overflow_sub-node_room c = let size = (sizes_in_numbers _ _ _).fact c.requires.0 in omega arith
