@@ -5,6 +5,7 @@ use mathlib.Core.Path.{◌≡◌, refl}
 use mir.Syntax.{Lifetime}
 use base.Fml.{Lft}
 use denote.Exit.{Kept, Last, see}
+use denote.Ref.{NamedLft}
 use denote.RattleType.{RattleType}
 use denote.MutBor.{MutBor}
 use denote.Slice.{ShrSlice}
@@ -15,6 +16,7 @@ use Rattle.store.specs.Memory.{Memory}
 use Rattle.store.specs.LentMemory.{words_in, words_in_mut}
 use Rattle.store.specs.declared.memory.Memory.{Memory as LentToAsk}
 use Rattle.store.specs.declared.memory.MemoryMut.{MemoryMut as LentMut}
+use Rattle.store.specs.contracts.memory.Memory.{the_row as lent_to_ask}
 use Rattle.store.specs.Came.{came, Asked, asked}
 
 -- what a call that asks is given: the memory, lent to be asked ..
@@ -61,3 +63,7 @@ SameWordsLeft x y = SameThree (memory_to_change x) (memory_to_change y)
 pub exit_is_entry : (ℓ : Lifetime) (κ : Lft) (A : RattleType) (kept : Kept) (x : (ShrSlice ℓ κ A).Denot) (w : Last ((ShrSlice ℓ κ A).exit kept) x)
     → see ((ShrSlice ℓ κ A).exit kept) x w ≡ x
 exit_is_entry ℓ κ A kept x w = refl
+
+-- .. and so it reads the memory that a call is lent to be asked, which is three such slices as one value: at the call's end it is the very value that was passed
+pub memory_exit_is_entry : (l : NamedLft) (kept : Kept) (x : LentToAsk) (w : Last ((lent_to_ask l).exit kept) x) → see ((lent_to_ask l).exit kept) x w ≡ x
+memory_exit_is_entry l kept x w = refl
