@@ -28,10 +28,10 @@ pub record Taken (place : ℕ) (answer : Result Turned Refusal) : Type 0 where
   pub round : place ≡ 1024 → t.next.0 ≡ 1
   pub goes_on : (1 ≤ t.next.0) × (t.next.0 ≤ 1024)
 
--- of any other: it is refused by the refusal whose number is 7, beside which the answer says zeros
+-- of any other: it is refused by the refusal whose number is 7, beside which the answer says level 0 and next place 0
 pub record Refused (answer : Result Turned Refusal) : Type 0 where
   pub refused : answer ≡ Err Refusal.LevelWrong
-  pub says_7 : turned_says answer ≡ saying 7 no_turn
+  pub says_7 : turned_says answer ≡ saying 7 (turn_of 0 0)
 
 -- ---- what an answer is that says this
 
