@@ -33,8 +33,8 @@ pub(crate) fn peek(memory: Memory<'_>, slice: Slice, index: u32) -> Result<u32, 
     words.get(index as usize).copied().ok_or(Fault::NoSuchWord)
 }
 
-// Over the words of bands, then nodes, then marks. Slice by slice: a chain of the three takes a third more time, since it asks at each word which of
-// them it has come to.
+// Over the words of bands, then nodes, then marks. Slice by slice: a chain of the three takes more than a quarter more time, since it asks at each
+// word which of them it has come to.
 pub(crate) fn sum(memory: Memory<'_>) -> u32 {
     let slices = [memory.bands, memory.nodes, memory.marks];
     slices.iter().fold(0, |sum, words| sum_on(sum, words))

@@ -1,4 +1,5 @@
--- What a call that is lent memory is given, as promises speak of it: the three slices, and what else; and how a slice lent by `&` is seen at the end.
+-- What a call that is lent memory is given, as promises speak of it: the three slices, and what else; and how a slice lent by `&`, and a memory of three,
+-- is seen at the end.
 -- For the laws of whatever meets a promise.
 -- Assumes nothing.
 use mathlib.Core.Path.{◌≡◌, refl}
